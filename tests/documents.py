@@ -1,8 +1,9 @@
 #!/usr/bin/env python3
 """The documents name things that are there.
 
-Every `name` that stands in a row of docs/THEOREMS.md beside a file is found in that file, every edit that a row names is a must-fail edit, every file
-that README.md or docs/ names is there, and no document names an absolute path.
+Every `name` that stands in a row of docs/THEOREMS.md beside a file is found in that file; every edit that a row names is a must-fail edit, written
+`crate/edit`, and every edit is named by a row; every crate of crates.txt is in the README's map; every file that README.md or docs/ names is there, and
+no document names an absolute path.
 """
 import pathlib
 import re
@@ -23,7 +24,8 @@ def has_name(text, name):
 
 
 documents = [root / "README.md"] + sorted((root / "docs").rglob("*.md"))
-edits = {path.stem for path in (root / "crates").glob("*/must-fail/*.edit")}
+edits = {f"{path.parts[-3]}/{path.stem}" for path in (root / "crates").glob("*/must-fail/*.edit")}
+named = set()
 for document in documents:
     text = document.read_text(encoding="utf-8")
     short = document.relative_to(root)
@@ -48,9 +50,17 @@ for number, cells in rows(text):
         for name in re.findall(r"`([^`]+)`", names):
             if not has_name(body, name):
                 faults.append(f"docs/THEOREMS.md:{number}: {name} is not in {path}")
-    for name in re.findall(r"`(\w+)`", cells[3]):
+    for name in re.findall(r"`([\w/]+)`", cells[3]):
+        named.add(name)
         if name not in edits:
             faults.append(f"docs/THEOREMS.md:{number}: no must-fail edit {name}")
+for name in sorted(edits - named):
+    faults.append(f"docs/THEOREMS.md: no row names the edit {name}")
+
+listed = re.findall(r"^(\w+):", (root / "crates.txt").read_text(encoding="utf-8"), re.M)
+for name in listed:
+    if not re.search(rf"^\| [^|]*`{name}`", (root / "README.md").read_text(encoding="utf-8"), re.M):
+        faults.append(f"README.md: the map has no crate {name}")
 
 for fault in faults:
     print(fault)

@@ -6,7 +6,7 @@ use mathlib.Core.List.{List, [], _∷_, _++_}
 use Prim.Native.Nat.{ℕ, zero, suc, _+_, _*_, _≤_, _<_}
 use native.Mathlib.Decide.{ℕ-discrete}
 use native.Mathlib.Omega.{arith}
-use lib.ListN.{length}
+use lib.ListN.{length, getD, replicate}
 use Rattle.parsimony.specs.Lists.{sum, from, choose, same, without}
 
 -- ---- a choice whose test is known
@@ -106,6 +106,16 @@ often-once a (suc m) k h l = go (ℕ-discrete a k) (λ q. often-once (suc a) m k
     go : Dec (a ≡ k) → (suc a ≤ k → often (from (suc a) m) k ≡ 1) → same a k + often (from (suc a) m) k ≡ 1
     go (yes e) ih = omega (arith, often-below (suc a) m k (omega arith), same-self a, ap (same a) e)
     go (no e) ih = omega (arith, same-apart a k e, ih (omega arith))
+
+-- a list of zeros, read anywhere
+pub zeros : (m i : ℕ) → _≡_ {A = ℕ} (getD (replicate m 0) i 0) 0
+zeros zero i = refl
+zeros (suc m) zero = refl
+zeros (suc m) (suc i) = zeros m i
+
+pub from-more : (a m : ℕ) → from a (suc m) ≡ from a m ++ ((a + m) ∷ [])
+from-more a zero = ap (λ b. b ∷ []) (omega arith)
+from-more a (suc m) = ap (λ bs. a ∷ bs) (from-more (suc a) m ∙ ap (λ b. from (suc a) m ++ (b ∷ [])) (omega arith))
 
 pub length-from : (a m : ℕ) → length (from a m) ≡ m
 length-from a zero = refl

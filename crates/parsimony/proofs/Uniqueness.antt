@@ -42,7 +42,7 @@ one-range r q h =
     (omega (arith, end-in r q (λ x. h x .0) (r .high) (r .fits) (omega arith), end-in q r (λ x. h x .1) (q .high) (q .fits) (omega arith)))
 
 -- the ends of a range from low to high, where they are in order
-span-ends : (low high low′ high′ : ℕ) → low ≤ high → low′ ≤ high′ → span low high ≡ span low′ high′ → (low ≡ low′) × (high ≡ high′)
+pub span-ends : (low high low′ high′ : ℕ) → low ≤ high → low′ ≤ high′ → span low high ≡ span low′ high′ → (low ≡ low′) × (high ≡ high′)
 span-ends low high low′ high′ f f′ e = (ap (λ r. r .low) e, omega (arith, ap (λ (r : Range). r .high) e))
 
 module _ (n : ℕ) (cell : ℕ → Range) (tree : List ℕ) (v : ℕ) where

@@ -24,6 +24,8 @@ pub mod Least
 pub mod Meaning
 -- the paper's steps: first pass, second pass, ACCTRAN and DELTRAN
 pub mod Steps
+-- a matrix of states: which cell is whose
+pub mod Matrix
 -- one ordered character, as lists of numbers
 pub mod Character
 -- m, g, CI and RI

@@ -215,7 +215,7 @@ tally-two t r q = ap (tally t) (join-two r q) ∙ tally-inner t q r ∙ ap clamp
 abbrev pub join3 : Range → Range → Range → Range
 join3 a b c = join (a ∷ b ∷ c ∷ [])
 
-join-three : (a b c : Range) → join3 a b c ≡ inner (inner c b) (inner (outer c b) a)
+pub join-three : (a b c : Range) → join3 a b c ≡ inner (inner c b) (inner (outer c b) a)
 unfolding chain link innermost last
 join-three a b c = join-innermost a (b ∷ c ∷ [])
 

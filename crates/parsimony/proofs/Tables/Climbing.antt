@@ -42,6 +42,14 @@ module _ (tree : List ℕ) where
   climb-on (suc s) zero k h e = omega arith
   climb-on (suc s) (suc t) k h e = climb-on s t (ancestor tree k) (omega arith) e
 
+  -- a climb of a + b steps is one of a steps and then one of b
+  pub climb-add : (a b k : ℕ) → climb tree (a + b) k ≡ climb tree b (climb tree a k)
+  climb-add zero b k = let e : 0 + b ≡ b = omega arith in ap (λ s. climb tree s k) e
+  climb-add (suc a) b k = ap (λ s. climb tree s k) (suc-plus a b) ∙ climb-add a b (ancestor tree k)
+    where
+      suc-plus : (a b : ℕ) → suc a + b ≡ suc (a + b)
+      suc-plus a b = omega arith
+
   -- one step more, at the end
   pub climb-more : (s k : ℕ) → climb tree (suc s) k ≡ ancestor tree (climb tree s k)
   climb-more zero k = refl

@@ -2,13 +2,22 @@
 -- Assumes nothing.
 use mathlib.Core.Path.{_≡_, refl, sym, _∙_, ap}
 use mathlib.Core.List.{List, [], _∷_}
-use Prim.Native.Nat.{ℕ, zero, suc, _+_, _*_, _≤_, _<_}
+use Prim.Native.Nat.{ℕ, zero, suc, _+_, _-_, _*_, _≤_, _<_}
 use native.Mathlib.Decide.{ℕ-discrete, decLe}
+use native.Mathlib.Numerals.{add-one}
 use native.Mathlib.Omega.{arith}
 use lib.ListN.{length, getD, List·getD-eq-default}
 use Rattle.parsimony.specs.Lists.{sum, from, choose, same}
 use Rattle.parsimony.specs.Table.{ancestor, nodes, having, descendants}
 use Rattle.parsimony.proofs.Sums.{All, often, same-apart, same-swap, often-once, all-from}
+
+-- the entry of the node k + 1
+pub entry-at : (tree : List ℕ) (k : ℕ) → ancestor tree (k + 1) ≡ getD tree k 0
+entry-at tree k = rw (add-one k)
+
+-- the entry of the node v
+pub entry-of : (tree : List ℕ) (v : ℕ) → 1 ≤ v → ancestor tree v ≡ getD tree (v - 1) 0
+entry-of tree v p = let e : v - 1 + 1 ≡ v = omega arith in ap (ancestor tree) (sym e) ∙ entry-at tree (v - 1)
 
 module _ (tree : List ℕ) where
   -- past the table there is no ancestor

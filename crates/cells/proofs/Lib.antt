@@ -1,0 +1,3 @@
+-- What a search through the cells has passed.
+-- Assumes nothing.
+mod Passing

@@ -1,0 +1,13 @@
+-- Which cells hold a state above 9999, the highest that document 01 allows: refusal 7.
+-- Assumes nothing.
+use mathlib.Core.List.{List}
+use Prim.Native.Nat.{ℕ, _<_}
+use Rattle.parsimony.specs.Matrix.{cellAt, stateOf}
+
+-- the cell i does
+abbrev pub AboveAt : List ℕ → ℕ → Type 0
+AboveAt matrix i = 9999 < cellAt matrix i
+
+-- the cell of the taxon t in the character j, of c, does
+abbrev pub AboveIn : List ℕ → (c j t : ℕ) → Type 0
+AboveIn matrix c j t = 9999 < stateOf matrix c j t

@@ -1,0 +1,3 @@
+-- How a climb with marks tells whether it leads to the root.
+-- Assumes nothing.
+mod Rounds

@@ -1,0 +1,14 @@
+-- How a number is written: in decimal, with no leading zero.
+-- Assumes nothing.
+use mathlib.Core.List.{List, [], _∷_, _++_}
+use mathlib.Core.Bool.{cond}
+use Prim.Native.Nat.{ℕ, zero, suc, _+_, _-_, _*_, _/_, _%_}
+use lib.Dec.{ltb}
+
+-- the decimal digits of n, of which there are no more than most + 1
+unfoldable pub decimalOf : ℕ → ℕ → List ℕ
+decimalOf zero n = (48 + n) ∷ []
+decimalOf (suc most) n = cond (ltb n 10) ((48 + n) ∷ []) (decimalOf most (n / 10) ++ ((48 + n % 10) ∷ []))
+
+abbrev pub decimal : ℕ → List ℕ
+decimal n = decimalOf n n

@@ -1,0 +1,3 @@
+-- A struct of two numbers as a range of states.
+-- Assumes nothing.
+pub mod Ranges

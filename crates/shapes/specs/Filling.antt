@@ -1,0 +1,50 @@
+-- What the functions of the shape ask, and what they do to a list at each step.
+-- Assumes nothing.
+use mathlib.Core.Path.{_≡_}
+use mathlib.Core.List.{List}
+use Prim.Native.Nat.{ℕ, zero, suc, _-_, _≤_, _<_}
+use native.Mathlib.Decide.{decLe}
+use lib.ListN.{length, getD, set}
+use lib.Seq.{sets}
+use Rattle.parsimony.specs.Lists.{choose}
+use Rattle.parsimony.specs.Table.{ancestor, descendants, Accepted}
+use Rattle.shapes.specs.Shape.{between, pathOf}
+use Rattle.trees.specs.Answers.{Sized}
+
+-- what was there, or the node where nothing was
+abbrev pub firstOf : ℕ → ℕ → ℕ
+firstOf zero node = node
+firstOf (suc old) node = suc old
+
+-- the list of left descendants, with one more descendant noted: nothing changes at a taxon
+abbrev pub leftWith : (n a node : ℕ) → List ℕ → List ℕ
+leftWith n a node left = choose (decLe a n) left (set left (a - n - 1) (firstOf (getD left (a - n - 1) 0) node))
+
+-- and that of right descendants
+abbrev pub rightWith : (n a node : ℕ) → List ℕ → List ℕ
+rightWith n a node right = choose (decLe a n) right (set right (a - n - 1) node)
+
+-- the table has two descendants at each interior node, and the lists have an entry for each of these, 0 in the first list
+pub record Fillable (n : ℕ) (tree left right : List ℕ) : Type 0 where
+  pub sized : Sized n tree
+  pub within : (k : ℕ) → ancestor tree k ≤ length tree
+  pub two : (v : ℕ) → n < v → v ≤ length tree → length (descendants tree v) ≡ 2
+  pub blank : (i : ℕ) → getD left i 0 ≡ 0
+  pub lefts : length left ≡ n - 2
+  pub rights : length right ≡ n - 2
+
+-- the table is accepted, k is a node, and the list has an entry for each interior node
+pub record Pathable (n : ℕ) (tree : List ℕ) (k : ℕ) (path : List ℕ) : Type 0 where
+  pub sized : Sized n tree
+  pub ρ : ℕ
+  pub δ : ℕ
+  pub accepted : Accepted n tree ρ δ
+  pub some : 1 ≤ k
+  pub most : k ≤ length tree
+  pub long : length path ≡ n - 2
+
+-- the list begins with the path from k to the root, and r is its length: the number of interior nodes between them
+pub record IsPath (n : ℕ) (tree : List ℕ) (k : ℕ) (before after : List ℕ) (r : ℕ) : Type 0 where
+  pub lists : after ≡ sets before 0 (pathOf n tree k)
+  pub counts : r ≡ length (pathOf n tree k)
+  pub number : r ≡ between n tree k

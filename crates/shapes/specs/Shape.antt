@@ -1,0 +1,29 @@
+-- The shape of an accepted table, as lists that a pass can follow.
+-- Assumes nothing.
+use mathlib.Core.Path.{_≡_}
+use mathlib.Core.List.{List, [], _∷_}
+use Prim.Native.Nat.{ℕ, zero, suc, _+_, _-_, _≤_, _<_}
+use native.Mathlib.Decide.{decLe}
+use lib.ListN.{length}
+use Rattle.parsimony.specs.Lists.{sum, from, choose}
+use Rattle.parsimony.specs.Table.{ancestor, descendants, below}
+use Rattle.parsimony.specs.Character.{atNode}
+
+-- two lists have each interior node's two descendants, the lower one in the first; the node n + 1 comes first
+abbrev pub Filled : ℕ → List ℕ → (left right : List ℕ) → Type 0
+Filled n tree left right = (v : ℕ) → n < v → v ≤ length tree → descendants tree v ≡ atNode n left v ∷ atNode n right v ∷ []
+
+-- the number of interior nodes between a node and the root
+abbrev pub between : ℕ → List ℕ → ℕ → ℕ
+between n tree k = sum (λ v. below tree v k) (from (suc n) (length tree - n))
+
+-- the interior nodes above k, from its ancestor up, s of them at the most
+unfoldable pub pathBy : ℕ → List ℕ → ℕ → ℕ → List ℕ
+pathBy n tree zero k = []
+pathBy n tree (suc s) k =
+    let rest = pathBy n tree s (ancestor tree k) in
+    choose (decLe (ancestor tree k) n) [] (ancestor tree k ∷ rest)
+
+-- the path from a node to the root: the interior nodes between them
+abbrev pub pathOf : ℕ → List ℕ → ℕ → List ℕ
+pathOf n tree k = pathBy n tree (length tree) k

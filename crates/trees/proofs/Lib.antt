@@ -1,0 +1,4 @@
+-- From the searches that found nothing to an accepted table; and that a table has one answer.
+-- Assumes nothing.
+mod Accepting
+pub mod Unique

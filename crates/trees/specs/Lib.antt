@@ -1,0 +1,3 @@
+-- Which tables are accepted and which are refused.
+-- Assumes nothing.
+pub mod Answers
