@@ -1,7 +1,14 @@
 """Document 01, written a second time: from the documents alone, as an engineer would without proofs. It shares nothing with the library.
 
 Nodes are counted from 1, as in the documents; tables are lists counted from 0. A refusal is a `Refused` with its number and place.
+
+    python3 tests/reference.py --self-test    tries it against every way of giving states on small trees, and against the documents' examples
 """
+import functools
+import itertools
+import random
+import re
+import sys
 
 
 class Refused(Exception):
@@ -42,3 +49,451 @@ def accept_tree(n, tree):
 
     lowest((k for k in nodes if lost(k)), 6)
     return root, descendants[root][0]
+
+
+# ---- the checks of the calls, in document 01's order
+
+STATES, LONGEST = 9999, 5089491
+
+
+def sizes(n, c, lens, asked):
+    """Refusal 1, then 2: of n and c, and of the lengths of the slices in the call's order."""
+    if not (3 <= n <= 256 and 1 <= c <= 512):
+        raise Refused(1, 0)
+    lowest((i for i, (has, want) in enumerate(zip(lens, asked), 1) if has != want), 2)
+
+
+def cell(c, taxon, character):
+    return (taxon - 1) * c + character
+
+
+def all_cells(matrix):
+    """Refusal 7, over all cells."""
+    lowest((i for i, state in enumerate(matrix, 1) if state > STATES), 7)
+
+
+def column(n, c, character, matrix):
+    """The states of one character, the taxon 1 first; refusal 8 or 7 of the character's cells alone."""
+    if not 1 <= character <= c:
+        raise Refused(8, 0)
+    lowest((cell(c, t, character) for t in range(1, n + 1) if matrix[cell(c, t, character) - 1] > STATES), 7)
+    return [matrix[cell(c, t, character) - 1] for t in range(1, n + 1)]
+
+
+# ---- lengths and ranges, by their meaning
+#
+# Not by joins: each node has a cost for each state that occurs among the taxa, what is least below it (`inside`) and what is least elsewhere (`outside`),
+# each by itself with the state given. A change costs the difference of the states, so both are convex and break only at states of taxa: what is least
+# over all integers is found there, and between the lowest and the highest state of least cost every integer has it.
+
+def neighbours(tree):
+    """The descendants of each node."""
+    descendants = {k: [] for k in range(len(tree) + 1)}
+    for k, up in enumerate(tree, 1):
+        descendants[up].append(k)
+    return descendants
+
+
+def moved(costs, states):
+    """For each state, the least cost after a change to it from any state: two sweeps over the states in rising order."""
+    costs = list(costs)
+    for i in range(1, len(states)):
+        costs[i] = min(costs[i], costs[i - 1] + states[i] - states[i - 1])
+    for i in range(len(states) - 2, -1, -1):
+        costs[i] = min(costs[i], costs[i + 1] + states[i + 1] - states[i])
+    return costs
+
+
+def least_states(costs, states):
+    least = min(costs)
+    at = [x for x, cost in zip(states, costs) if cost == least]
+    return least, (at[0], at[-1])
+
+
+NEVER = 10 ** 9
+
+
+class Meaning:
+    """Of one character on an accepted tree: its least length; at each interior node the least length below it, the states that shortest ways below
+    it have there, and those that shortest ways of the whole tree have there. `given` is the state of each taxon."""
+
+    def __init__(self, n, tree, given):
+        self.n, self.tree, self.given = n, tree, given
+        root = tree.index(0) + 1
+        descendants = neighbours(tree)
+        top = descendants[root][0]
+        states = sorted(set(given))
+        order = [top]
+        for v in order:
+            order += descendants[v]
+        inside, risen = {}, {}
+        for v in reversed(order):
+            if v <= n:
+                inside[v] = [0 if x == given[v - 1] else NEVER for x in states]
+            else:
+                inside[v] = [sum(pair) for pair in zip(*(risen[k] for k in descendants[v]))]
+            risen[v] = moved(inside[v], states)
+        outside = {top: [abs(x - given[root - 1]) for x in states]}
+        for v in order:
+            for k in descendants[v]:
+                rest = [risen[s] for s in descendants[v] if s != k] + [outside[v]]
+                outside[k] = moved([sum(costs) for costs in zip(*rest)], states)
+        self.length = risen[top][states.index(given[root - 1])]
+        self.first, self.subtree, self.final = {}, {}, {}
+        for v in range(n + 1, 2 * n - 1):
+            self.subtree[v], self.first[v] = least_states(inside[v], states)
+            least, self.final[v] = least_states([a + b for a, b in zip(inside[v], outside[v])], states)
+            assert least == self.length
+        self.order, self.root = [v for v in order if v > n], root
+
+    def states(self, resolve):
+        """ACCTRAN's or DELTRAN's: from the root downward, the state of the first-pass or of the final range nearest the ancestor's state."""
+        ranges = self.first if resolve == "acctran" else self.final
+        chosen = {t: x for t, x in enumerate(self.given, 1)}
+        for v in self.order:
+            low, high = ranges[v]
+            x = chosen[self.tree[v - 1]]
+            chosen[v] = low if x < low else high if x > high else x
+        return [chosen[v] for v in range(self.n + 1, 2 * self.n - 1)]
+
+    def listed(self, entries):
+        return [entries[v] for v in range(self.n + 1, 2 * self.n - 1)]
+
+
+@functools.lru_cache(maxsize=None)
+def remembered(n, tree, given):
+    return Meaning(n, list(tree), list(given))
+
+
+def meaning_of(n, tree, given):
+    """The same, and the work is done once where it is asked for again."""
+    return remembered(n, tuple(tree), tuple(given))
+
+
+def way_length(tree, way):
+    """The plain sum over the branches; way is the state of each node, the node 1 first."""
+    return sum(abs(way[k] - way[up - 1]) for k, up in enumerate(tree) if up)
+
+
+# ---- indices
+
+def spread(given):
+    return max(given) - min(given)
+
+
+def star(given, root):
+    return sum(abs(x - given[root - 1]) for x in given)
+
+
+def ci(m, s):
+    return None if s == 0 else (m, s)
+
+
+def ri(m, s, g):
+    return None if g == m or g < s else (g - s, g - m)
+
+
+# ---- the calls
+
+class Scores:
+    def __init__(self, s, m, g):
+        self.length, self.m, self.g, self.ci, self.ri = s, m, g, ci(m, s), ri(m, s, g)
+
+
+def one_character(n, c, character, resolve, tree, matrix, lens=None):
+    """One character afresh: scores, first-pass ranges, subtree lengths, final ranges and states, the node n + 1 first. `lens` are the lengths of the
+    eight slices that are lent, where they are not all exact."""
+    asked = [2 * n - 2, n * c] + [n - 2] * 6
+    sizes(n, c, lens or [len(tree), len(matrix)] + asked[2:], asked)
+    root, _ = accept_tree(n, tree)
+    given = column(n, c, character, matrix)
+    meaning = meaning_of(n, tree, given)
+    scores = Scores(meaning.length, spread(given), star(given, root))
+    return scores, meaning.listed(meaning.first), meaning.listed(meaning.subtree), meaning.listed(meaning.final), meaning.states(resolve)
+
+
+def all_characters(n, c, tree, matrix):
+    """All characters afresh: the tree's scores. m, s and g are summed first."""
+    sizes(n, c, [len(tree), len(matrix)], [2 * n - 2, n * c])
+    root, _ = accept_tree(n, tree)
+    all_cells(matrix)
+    columns = [column(n, c, j, matrix) for j in range(1, c + 1)]
+    return Scores(sum(meaning_of(n, tree, given).length for given in columns), sum(map(spread, columns)), sum(star(given, root) for given in columns))
+
+
+# ---- the kept table: three lists, by character and then by node
+
+class Table:
+    def __init__(self, lows, highs, lengths):
+        self.lows, self.highs, self.lengths = list(lows), list(highs), list(lengths)
+
+    def lists(self):
+        return self.lows, self.highs, self.lengths
+
+    def lens(self):
+        return [len(entries) for entries in self.lists()]
+
+    def bad(self, i):
+        return self.lows[i] > self.highs[i] or self.highs[i] > STATES or self.lengths[i] > LONGEST
+
+
+def kept_sizes(n, c, tree, matrix, table, finals=()):
+    sizes(n, c, [len(tree), len(matrix)] + table.lens() + list(finals), [2 * n - 2, n * c] + [(n - 2) * c] * 3 + [n - 2] * 2)
+
+
+def build(n, c, tree, matrix, table):
+    """Writes the table; its lists have to be as long as the table is."""
+    kept_sizes(n, c, tree, matrix, table)
+    accept_tree(n, tree)
+    all_cells(matrix)
+    table.lows, table.highs, table.lengths = [], [], []
+    for j in range(1, c + 1):
+        meaning = meaning_of(n, tree, column(n, c, j, matrix))
+        for v in range(n + 1, 2 * n - 1):
+            table.lows.append(meaning.first[v][0])
+            table.highs.append(meaning.first[v][1])
+            table.lengths.append(meaning.subtree[v])
+
+
+# A table that was not built from its tree and matrix has no meaning, and is answered by the steps over its entries as they stand.
+
+def middle(ranges):
+    """The two middle ends of ranges: the join."""
+    row = sorted(end for r in ranges for end in r)
+    return row[len(ranges) - 1], row[len(ranges)]
+
+
+def gap(a, b):
+    return max(0, a[0] - b[1], b[0] - a[1])
+
+
+class Column:
+    """One character of a table beside its matrix: the range and the length at a node."""
+
+    def __init__(self, n, c, character, matrix, table):
+        self.n, self.at, self.table = n, (character - 1) * (n - 2) - n - 1, table
+        self.given = [matrix[cell(c, t, character) - 1] for t in range(1, n + 1)]
+
+    def range(self, v):
+        if v <= self.n:
+            return self.given[v - 1], self.given[v - 1]
+        return self.table.lows[self.at + v], self.table.highs[self.at + v]
+
+    def length(self, v):
+        return 0 if v <= self.n else self.table.lengths[self.at + v]
+
+    def whole(self, root, top):
+        return self.length(top) + gap((self.given[root - 1],) * 2, self.range(top))
+
+
+def kept_length(n, c, tree, matrix, table):
+    kept_sizes(n, c, tree, matrix, table)
+    root, top = accept_tree(n, tree)
+    all_cells(matrix)
+    lowest((n + 1 + i % (n - 2) for i in range((n - 2) * c) if table.bad(i)), 10)
+    return sum(Column(n, c, j, matrix, table).whole(root, top) for j in range(1, c + 1))
+
+
+def kept_character(n, c, character, tree, matrix, table, finals=None):
+    """The length and the final ranges. `finals` are the lengths of the two slices that receive them."""
+    kept_sizes(n, c, tree, matrix, table, finals or [n - 2] * 2)
+    root, top = accept_tree(n, tree)
+    given = column(n, c, character, matrix)
+    kept = Column(n, c, character, matrix, table)
+    lowest((v for v in range(n + 1, 2 * n - 1) if table.bad(kept.at + v)), 10)
+    descendants = neighbours(tree)
+    above, final = {top: (given[root - 1],) * 2}, {}
+    order = [top]
+    for v in order:
+        left, right = descendants[v]
+        final[v] = middle([kept.range(left), kept.range(right), above[v]])
+        above[left] = middle([kept.range(right), above[v]])
+        above[right] = middle([kept.range(left), above[v]])
+        order += [k for k in (left, right) if k > n]
+    return kept.whole(root, top), [final[v] for v in range(n + 1, 2 * n - 1)]
+
+
+def correct(n, c, taxon, character, state, tree, matrix, table):
+    """Writes one cell and the entries between it and the root; answers how many those are."""
+    kept_sizes(n, c, tree, matrix, table)
+    accept_tree(n, tree)
+    if not 1 <= taxon <= n:
+        raise Refused(8, 0)
+    column(n, c, character, matrix)
+    if state > STATES:
+        raise Refused(9, 0)
+    descendants = neighbours(tree)
+    path, v = [], tree[taxon - 1]
+    while v > n:
+        path.append(v)
+        v = tree[v - 1]
+    at = (character - 1) * (n - 2) - n - 1
+    lowest(sorted(k for v in path for k in descendants[v] if k > n and k not in path and table.bad(at + k)), 10)
+    matrix[cell(c, taxon, character) - 1] = state
+    kept = Column(n, c, character, matrix, table)
+    for v in path:
+        left, right = (kept.range(k) for k in descendants[v])
+        table.lengths[at + v] = sum(kept.length(k) for k in descendants[v]) + gap(left, right)
+        table.lows[at + v], table.highs[at + v] = middle([left, right])
+    return len(path)
+
+
+# ---- the self-test: against every way of giving states to the interior nodes of small trees, and against the documents' examples
+
+def by_all_ways(n, tree, given, states):
+    """The same as Meaning, by trying every way: the least length below each node and of the whole, and the states that the shortest ways have."""
+    descendants = neighbours(tree)
+    inner = list(range(n + 1, 2 * n - 1))
+    below = {v: [v] for v in inner}
+    for v in inner:
+        for k in below[v]:
+            below[v] += descendants[k]
+    whole, used, sub, first = NEVER, {}, {v: NEVER for v in inner}, {}
+    for chosen in itertools.product(states, repeat=n - 2):
+        way = list(given) + list(chosen)
+        step = [abs(way[k] - way[up - 1]) if up else 0 for k, up in enumerate(tree)]
+        length = sum(step)
+        if length < whole:
+            whole, used = length, {v: set() for v in inner}
+        if length == whole:
+            for v in inner:
+                used[v].add(way[v - 1])
+        for v in inner:
+            length = sum(step[k - 1] for k in below[v] if k != v)
+            if length < sub[v]:
+                sub[v], first[v] = length, set()
+            if length == sub[v]:
+                first[v].add(way[v - 1])
+    return whole, sub, first, used
+
+
+def self_test():
+    rng = random.Random(1987)
+
+    def tree_of(n):
+        inner = rng.sample(range(n + 1, 2 * n - 1), n - 2)
+        root = rng.randint(1, n)
+        tops, up = [t for t in range(1, n + 1) if t != root], {root: 0}
+        for v in inner:
+            for _ in range(2):
+                up[tops.pop(rng.randrange(len(tops)))] = v
+            tops.append(v)
+        up[tops[0]] = root
+        return [up[k] for k in range(1, 2 * n - 1)]
+
+    def run_of(ends):
+        return set(range(ends[0], ends[1] + 1))
+
+    for n, times in ((3, 40), (4, 60), (5, 40), (6, 12)):
+        for _ in range(times):
+            tree, given = tree_of(n), [rng.randint(0, 4) for _ in range(n)]
+            whole, sub, first, used = by_all_ways(n, tree, given, range(-1, 6) if n < 6 else range(5))
+            meaning = Meaning(n, tree, given)
+            assert meaning.length == whole and meaning.subtree == sub
+            assert {v: run_of(r) for v, r in meaning.first.items()} == first and {v: run_of(r) for v, r in meaning.final.items()} == used
+            for resolve in ("acctran", "deltran"):
+                assert way_length(tree, given + meaning.states(resolve)) == whole
+    # larger trees: the reconstructions have the least length; corrections keep the table what a fresh build makes it; kept answers are the fresh ones
+    for _ in range(25):
+        n, c = rng.randint(3, 12), rng.randint(1, 3)
+        tree, matrix = tree_of(n), [rng.choice([0, 1, 2, 3, 50, 9999]) for _ in range(n * c)]
+        table, fresh = (Table(*([[0] * ((n - 2) * c)] * 3)) for _ in range(2))
+        build(n, c, tree, matrix, table)
+        for _ in range(8):
+            taxon, character = rng.randint(1, n), rng.randint(1, c)
+            count = correct(n, c, taxon, character, rng.randint(0, 60), tree, matrix, table)
+            assert (count == 0) == (tree[taxon - 1] == 0) and count <= n - 2
+            build(n, c, tree, matrix, fresh)
+            assert table.lists() == fresh.lists()
+            scores, _, _, final, states = one_character(n, c, character, rng.choice(["acctran", "deltran"]), tree, matrix)
+            assert kept_character(n, c, character, tree, matrix, table) == (scores.length, final)
+            assert way_length(tree, column(n, c, character, matrix) + states) == scores.length
+            assert kept_length(n, c, tree, matrix, table) == all_characters(n, c, tree, matrix).length
+
+    # P1 to P7, and the neighbouring ranges
+    for a, b, join, cost in (((1, 1), (5, 5), (1, 5), 4), ((1, 3), (5, 6), (3, 5), 2), ((1, 3), (2, 4), (2, 3), 0), ((3, 3), (1, 5), (3, 3), 0),
+                             ((0, 2), (2, 2), (2, 2), 0), ((9999, 9999), (0, 0), (0, 9999), 9999), ((4, 4), (4, 4), (4, 4), 0), ((1, 3), (4, 6), (3, 4), 1)):
+        assert middle([a, b]) == middle([b, a]) == join and gap(a, b) == gap(b, a) == cost
+
+    def shows(scores):
+        return scores.length, scores.m, scores.g, scores.ci, scores.ri
+
+    # P8, P9 and the tree of the handout; DELTRAN; the choice 1,3
+    tree, matrix = [0, 5, 6, 6, 1, 5], [0, 0, 3, 1, 1, 1, 5, 0]
+    scores, first, subtree, final, states = one_character(4, 2, 1, "acctran", tree, matrix)
+    assert (shows(scores), first, subtree, final, states) == ((7, 5, 9, (5, 7), (2, 4)), [(3, 3), (1, 5)], [4, 4], [(1, 3), (1, 3)], [3, 3])
+    scores, first, subtree, final, states = one_character(4, 2, 2, "acctran", tree, matrix)
+    assert (shows(scores), first, subtree, final, states) == ((2, 1, 2, (1, 2), (0, 1)), [(1, 1), (0, 1)], [1, 1], [(0, 1), (0, 1)], [1, 1])
+    assert one_character(4, 2, 1, "deltran", tree, matrix)[4] == [1, 1] and way_length(tree, [0, 3, 1, 5, 1, 3]) == 9
+    assert shows(all_characters(4, 2, tree, matrix)) == (9, 6, 11, (6, 9), (2, 5))
+    # P10 and P11
+    table = Table([0] * 4, [0] * 4, [0] * 4)
+    build(4, 2, tree, matrix, table)
+    before, cells = [list(entries) for entries in table.lists()], list(matrix)
+    assert correct(4, 2, 4, 1, 3, tree, matrix, table) == 2
+    assert [entries[:2] for entries in table.lists()] == [[3, 1], [3, 3], [2, 2]] and kept_character(4, 2, 1, tree, matrix, table)[0] == 5
+    table = Table(*before)
+    assert correct(4, 2, 1, 1, 4, tree, cells, table) == 0 and list(table.lists()) == before and kept_character(4, 2, 1, tree, cells, table)[0] == 5
+    # P12
+    scores = one_character(3, 1, 1, "acctran", [0, 4, 4, 1], [2, 2, 2])[0]
+    assert (scores.length, scores.ci, scores.ri) == (0, None, None)
+    # the paper's Fig. 4, with Figs. 5 and 6
+    paper = [8, 8, 9, 9, 11, 11, 0, 10, 10, 12, 12, 7]
+    scores, first, _, final, states = one_character(7, 1, 1, "acctran", paper, [2, 4, 5, 6, 0, 3, 1])
+    assert (scores.length, first, final) == (10, [(2, 4), (5, 6), (4, 5), (0, 3), (3, 4)], [(2, 4), (5, 5), (2, 4), (1, 3), (1, 3)])
+    assert states == [4, 5, 4, 3, 3] and one_character(7, 1, 1, "deltran", paper, [2, 4, 5, 6, 0, 3, 1])[4] == [2, 5, 2, 1, 1]
+    # Narushima and Hanazawa: f to l are the taxa 1 to 7 and a to e the interior nodes 8 to 12; rooted at f, and at i
+    states = [1, 3, 0, 6, 5, 2, 4]
+    for tree in ([0, 12, 12, 10, 10, 9, 9, 11, 8, 8, 1, 11], [11, 12, 12, 0, 10, 9, 9, 10, 8, 4, 8, 11]):
+        scores, _, _, final, _ = one_character(7, 1, 1, "acctran", tree, states)
+        assert (scores.length, final) == (10, [(2, 4), (2, 4), (5, 5), (1, 3), (1, 3)])
+    # refusals that document 01 names
+    for answer, call in (((1, 0), lambda: one_character(2, 1, 1, "acctran", [0, 1], [1, 1])),
+                         ((6, 3), lambda: all_characters(4, 1, [0, 1, 5, 6, 6, 5], [0] * 4)),
+                         ((6, 3), lambda: all_characters(3, 1, [0, 1, 4, 4], [0] * 3)),
+                         ((5, 5), lambda: all_characters(4, 1, [0, 5, 5, 5, 1, 5], [0] * 4)),
+                         ((7, 4), lambda: one_character(3, 2, 2, "acctran", [0, 4, 4, 1], [0, 9999, 10000, 10000, 0, 0]))):
+        try:
+            call()
+            assert False
+        except Refused as refused:
+            assert (refused.number, refused.place) == answer
+    print("reference: ok")
+
+
+if __name__ == "__main__" and sys.argv[1:] == ["--self-test"]:
+    self_test()
+def read_sheet(text, tree_length=510, matrix_length=16384):
+    """A sheet's n, c, choice, ancestors and rows, or refusal 2, 12, 11 or 1. The text is bytes; the lengths are those of the lent slices."""
+    if tree_length != 510:
+        raise Refused(2, 1)
+    if matrix_length != 16384:
+        raise Refused(2, 2)
+    if len(text) > 32768:
+        raise Refused(12, 0)
+    *lines, rest = text.split(b"\n")                                                  # what follows the last LF is no line
+
+    def values(k, key, count):
+        """The numbers of line k, which has this key and so many numbers."""
+        line = lines[k - 1] if k <= len(lines) else b""
+        fields = line[len(key):].split(b",")
+        if not line.startswith(key) or len(fields) != count:
+            raise Refused(11, k)
+        if not all(re.fullmatch(b"0|[1-9][0-9]{0,4}", field) and int(field) <= 65535 for field in fields):
+            raise Refused(11, k)
+        return [int(field) for field in fields]
+
+    [n], [c] = values(1, b"taxa=", 1), values(2, b"characters=", 1)
+    if n not in range(3, 257) or c not in range(1, 513):
+        raise Refused(1, 0)
+    ancestors = values(3, b"ancestors=", 2 * n - 2)
+    rows = [values(k, b"row=", c) for k in range(4, 4 + n)]
+    end, choice = 4 + n, "acctran"
+    if len(lines) >= end:
+        if lines[end - 1] not in (b"resolve=acctran", b"resolve=deltran"):
+            raise Refused(11, end)
+        choice = lines[end - 1].decode()[len("resolve="):]
+        end += 1
+    if len(lines) >= end or rest:
+        raise Refused(11, end)
+    return n, c, choice, ancestors, rows

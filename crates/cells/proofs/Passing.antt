@@ -2,20 +2,13 @@
 -- Assumes nothing.
 use mathlib.Core.Path.{_≡_, sym, ap, subst}
 use mathlib.Core.List.{List}
-use Prim.Native.Nat.{ℕ, suc, _+_, _-_, _*_, _≤_, _<_}
-use native.Mathlib.Nat.{suc-mul, mul-le-mul-right}
+use Prim.Native.Nat.{ℕ, _+_, _-_, _*_, _≤_, _<_}
 use native.Mathlib.Omega.{arith}
 use lib.ListN.{length, getD}
 use Rattle.refusals.specs.Search.{Lowest, Never}
 use Rattle.refusals.proofs.Laws.{never-more, lowest-here}
 use Rattle.parsimony.specs.Matrix.{cellAt, stateOf}
 use Rattle.cells.specs.Above.{AboveAt, AboveIn}
-
--- the cell of a taxon and a character, counted from 0, is one of the matrix
-pub cell-in : (n c t j : ℕ) → t < n → j < c → t * c + j < n * c
-cell-in n c t j p q =
-    let h : suc t * c ≤ n * c = mul-le-mul-right c p in
-    omega (arith, suc-mul t c)
 
 module _ (matrix : List ℕ) where
   here : (i : ℕ) → cellAt matrix (i + 1) ≡ getD matrix i 0

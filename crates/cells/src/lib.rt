@@ -1,10 +1,20 @@
-// The search for a state above 9999: in the whole matrix, and in the cells of one character.
+// The cells of a matrix: the state of one, and the search for a state above 9999, in the whole matrix and in the cells of one character.
 use refusals::Found;
 ghost use Prim.Native.Nat.{ℕ, _*_, _≤_, _<_};
 ghost use mathlib.Core.Path.{_≡_};
 ghost use lib.ListN.{length};
 ghost use Rattle.refusals.specs.Search.{Finds};
-ghost use Rattle.cells.specs.Above.{AboveAt, AboveIn};
+ghost use Rattle.parsimony.specs.Matrix.{stateOf};
+ghost use Rattle.cells.specs.Above.{InMatrix, AboveAt, AboveIn};
+
+// The state of a taxon in a character.
+pub fn state_of(c: usize, character: usize, taxon: usize, matrix: &[u16]) -> u16
+    requires { ⌜ InMatrix c character taxon (now matrix) ⌝ }
+    ensures { λ r. ⌜ r ≡ stateOf (now (matrix .entry)) c character taxon ⌝ }
+{
+    let row = (taxon - 1) * c;
+    matrix[row + (character - 1)]
+}
 
 // The lowest cell whose state is above 9999.
 pub fn state_above(n: usize, c: usize, matrix: &[u16]) -> Found

@@ -150,3 +150,44 @@ item-of text end i (Value v m) w n p f e =
 -- an item takes two bytes or more, all within the text
 pub item-long : (text : List ℕ) (end i w n : ℕ) → 0 < end → itemAt text end i ≡ Value w n → (i + 2 ≤ n) × (n ≤ length text)
 item-long text end i w n p e = item-of text end i (numberAt text i) w n p (λ v m g. number-grow i (drop i text) v m g) e
+
+-- ---- a number is below 65536
+
+digits-fit-case : (p : Bool) (b v i w n : ℕ) (rest : Parsed) → v ≤ 65535 → (b ≤ 65535 → rest ≡ Value w n → w ≤ 65535)
+    → cond p (cond (ltb 65535 b) Bad rest) (Value v i) ≡ Value w n → w ≤ 65535
+digits-fit-case true b v i w n rest h f e = go (below-or 65535 b)
+  where
+    go : (65535 < b) ⊎ (b ≤ 65535) → w ≤ 65535
+    go (inl l) = absurd (let g : Bad ≡ Value w n = rw (lt-ltb 65535 b l) at e in let z : _≡_ {A = ℕ} 0 1 = cc in omega arith)
+    go (inr l) = f l (rw (le-ltb 65535 b l) at e)
+digits-fit-case false b v i w n rest h f e = let z : v ≡ w = cc in omega arith
+
+digits-fit : (v i : ℕ) (l : List ℕ) (w n : ℕ) → v ≤ 65535 → digitsFrom v i l ≡ Value w n → w ≤ 65535
+unfolding digitsFrom
+digits-fit v i [] w n h e = let z : v ≡ w = cc in omega arith
+digits-fit v i (b ∷ bs) w n h e =
+    digits-fit-case (leb (digitOf b) 9) (v * 10 + digitOf b) v i w n _ h (λ k g. digits-fit (v * 10 + digitOf b) (i + 1) bs w n k g) e
+
+number-fit-case : (q : Bool) (d i w n : ℕ) (rest : Parsed) → (d ≤ 9 → rest ≡ Value w n → w ≤ 65535)
+    → cond (ltb 9 d) Bad (cond q (Value 0 (i + 1)) rest) ≡ Value w n → w ≤ 65535
+number-fit-case q d i w n rest f e = go q (below-or 9 d) e
+  where
+    go : (q : Bool) → (9 < d) ⊎ (d ≤ 9) → cond (ltb 9 d) Bad (cond q (Value 0 (i + 1)) rest) ≡ Value w n → w ≤ 65535
+    go q (inl l) g = absurd (let k : Bad ≡ Value w n = rw (lt-ltb 9 d l) at g in let z : _≡_ {A = ℕ} 0 1 = cc in omega arith)
+    go true (inr l) g = let k : Value 0 (i + 1) ≡ Value w n = rw (le-ltb 9 d l) at g in let z : 0 ≡ w = cc in omega arith
+    go false (inr l) g = f l (rw (le-ltb 9 d l) at g)
+
+number-fit : (i : ℕ) (l : List ℕ) (w n : ℕ) → numberFrom i l ≡ Value w n → w ≤ 65535
+unfolding numberFrom
+number-fit i [] w n e = let z : _≡_ {A = ℕ} 0 1 = cc in omega arith
+number-fit i (b ∷ bs) w n e =
+    number-fit-case (eqb (digitOf b) 0) (digitOf b) i w n _ (λ k g. digits-fit (digitOf b) (i + 1) bs w n (omega arith) g) e
+
+item-fit-of : (text : List ℕ) (end : ℕ) (got : Parsed) (w n : ℕ) → ((v m : ℕ) → got ≡ Value v m → v ≤ 65535) → ended text end got ≡ Value w n
+    → w ≤ 65535
+unfolding ended
+item-fit-of text end Bad w n f e = let z : _≡_ {A = ℕ} 0 1 = cc in omega arith
+item-fit-of text end (Value v m) w n f e = omega (arith, f v m refl, item-case (eqb (getD text m 0) end) v m w n e .1)
+
+pub item-fit : (text : List ℕ) (end i w n : ℕ) → itemAt text end i ≡ Value w n → w ≤ 65535
+item-fit text end i w n e = item-fit-of text end (numberAt text i) w n (λ v m g. number-fit i (drop i text) v m g) e

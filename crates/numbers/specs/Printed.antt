@@ -1,4 +1,4 @@
--- How a number is written: in decimal, with no leading zero.
+-- How numbers are written: in decimal, with no leading zero; and several of them with commas between.
 -- Assumes nothing.
 use mathlib.Core.List.{List, [], _∷_, _++_}
 use mathlib.Core.Bool.{cond}
@@ -12,3 +12,13 @@ decimalOf (suc most) n = cond (ltb n 10) ((48 + n) ∷ []) (decimalOf most (n / 
 
 abbrev pub decimal : ℕ → List ℕ
 decimal n = decimalOf n n
+
+-- numbers, each after a comma
+unfoldable pub continued : List ℕ → List ℕ
+continued [] = []
+continued (v ∷ vs) = 44 ∷ (decimal v ++ continued vs)
+
+-- numbers with commas between
+unfoldable pub commas : List ℕ → List ℕ
+commas [] = []
+commas (v ∷ vs) = decimal v ++ continued vs

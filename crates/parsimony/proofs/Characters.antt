@@ -6,7 +6,8 @@ use mathlib.Core.List.{List, [], _∷_}
 use Prim.Native.Nat.{ℕ, suc, _+_, _-_, _≤_, _<_, min, max}
 use native.Mathlib.Decide.{decLe}
 use native.Mathlib.Omega.{arith}
-use lib.ListN.{length, getD}
+use lib.ListN.{length, getD, set}
+use lib.Seq.{getD-set-same, getD-set-other}
 use lib.IntN.{ℤ, pos, negsuc}
 use Rattle.parsimony.specs.Lists.{choose}
 use Rattle.parsimony.specs.Table.{ancestor, IsTree}
@@ -40,6 +41,19 @@ in-point a x = (
   λ e. in-range (point a) x .1 (a, e, omega arith, omega arith),
 )
 
+pub span-point : (a : ℕ) → span a a ≡ point a
+span-point a = range-same (span a a) (point a) refl (omega arith)
+
+-- ---- one entry of a list is written
+
+module _ (n : ℕ) (entries : List ℕ) (v x : ℕ) (inner : n < v) where
+  pub entry-written : v - n - 1 < length entries → atNode n (set entries (v - n - 1) x) v ≡ x
+  entry-written l =
+      ap (λ k. getD (set entries (v - n - 1) x) k 0) (omega arith) ∙ getD-set-same entries (v - n - 1) x 0 l
+
+  pub entry-other : (u : ℕ) → n < u → u ≢ v → atNode n (set entries (v - n - 1) x) u ≡ atNode n entries u
+  entry-other u h d = getD-set-other entries (v - n - 1) (u - suc n) x 0 (λ e. d (omega arith))
+
 module _ (n : ℕ) (state : ℕ → ℕ) where
   -- to agree is to have the taxa's states
   pub agrees-states : (w : ℕ → ℤ) → Agrees ordered n (cells n state) w ↔ ((k : ℕ) → 1 ≤ k → k ≤ n → w k ≡ pos (state k))
@@ -64,6 +78,14 @@ module _ (n : ℕ) (state : ℕ → ℕ) where
 
   pub way-taxon : (states : List ℕ) (k : ℕ) → k ≤ n → wayOf n state states k ≡ pos (state k)
   way-taxon states k l = ap pos (choose-yes (decLe k n) (state k) (atNode n states k) l)
+
+  -- a node's state is as before where another's is written
+  pub way-other : (states : List ℕ) (v x : ℕ) → n < v → (u : ℕ) → u ≢ v → wayOf n state (set states (v - n - 1) x) u ≡ wayOf n state states u
+  way-other states v x inner u d = ap pos (go (decLe u n))
+    where
+      go : (e : Dec (u ≤ n)) → choose e (state u) (atNode n (set states (v - n - 1) x) u) ≡ choose e (state u) (atNode n states u)
+      go (yes l) = refl
+      go (no l) = entry-other n states v x inner u (omega arith) d
 
   pub way-inner : (states : List ℕ) (v : ℕ) → n < v → wayOf n state states v ≡ pos (atNode n states v)
   way-inner states v h = ap pos (choose-no (decLe v n) (state v) (atNode n states v) (λ l. omega arith))

@@ -5,6 +5,8 @@ use mathlib.Core.Logic.{_≢_}
 use mathlib.Core.List.{List, [], _∷_, _++_}
 use Prim.Native.Nat.{ℕ, zero, suc, _+_, _*_, _≤_, _<_}
 use native.Mathlib.Decide.{ℕ-discrete}
+use native.Mathlib.Nat.{suc-mul}
+use native.Mathlib.Numerals.{add-one}
 use native.Mathlib.Omega.{arith}
 use lib.ListN.{length, getD, replicate}
 use Rattle.parsimony.specs.Lists.{sum, from, choose, same, without}
@@ -98,6 +100,10 @@ pub often-below : (a m k : ℕ) → k < a → often (from a m) k ≡ 0
 often-below a zero k h = refl
 often-below a (suc m) k h = omega (arith, same-apart a k (omega arith), often-below (suc a) m k (omega arith))
 
+pub often-beyond : (a m k : ℕ) → a + m ≤ k → often (from a m) k ≡ 0
+often-beyond a zero k h = refl
+often-beyond a (suc m) k h = omega (arith, same-apart a k (λ (e : a ≡ k). omega arith), often-beyond (suc a) m k (omega arith))
+
 -- a run of numbers has each once
 pub often-once : (a m k : ℕ) → a ≤ k → k < a + m → often (from a m) k ≡ 1
 often-once a zero k h l = omega arith
@@ -166,3 +172,66 @@ all-zero g (k ∷ ks) h = (omega arith, all-zero g ks (omega arith))
 pub sum-small : (g : ℕ → ℕ) (ks : List ℕ) → All (λ k. g k ≤ 1) ks → sum g ks ≤ length ks
 sum-small g [] h = omega arith
 sum-small g (k ∷ ks) h = omega (arith, h .0, sum-small g ks (h .1))
+
+-- ---- sums over the numbers from 1 to m
+
+module _ (f : ℕ → ℕ) where
+  pub sum-next : (m : ℕ) → sum f (from 1 (m + 1)) ≡ sum f (from 1 m) + f (m + 1)
+  sum-next m = rw (add-one m) (ap (sum f) (from-more 1 m) ∙ sum-append f (from 1 m) ((1 + m) ∷ []) ∙ omega (arith, ap f next))
+    where
+      next : 1 + m ≡ suc m
+      next = omega arith
+
+  -- a sum in two parts
+  pub sum-parts : (a m : ℕ) → sum f (from 1 (a + m)) ≡ sum f (from 1 a) + sum (λ i. f (a + i)) (from 1 m)
+  sum-parts a zero = ap (λ k. sum f (from 1 k)) none ∙ omega arith
+    where
+      none : a + 0 ≡ a
+      none = omega arith
+  sum-parts a (suc m) =
+      omega (
+        arith,
+        ap (λ k. sum f (from 1 k)) first,
+        sum-next (a + m),
+        sum-parts a m,
+        sum-next-shifted,
+        ap (λ k. sum (λ i. f (a + i)) (from 1 k)) (add-one m),
+      )
+    where
+      first : a + suc m ≡ a + m + 1
+      first = omega arith
+
+      sum-next-shifted : sum (λ i. f (a + i)) (from 1 (m + 1)) ≡ sum (λ i. f (a + i)) (from 1 m) + f (a + m + 1)
+      sum-next-shifted =
+          rw (add-one m)
+          (ap (sum (λ i. f (a + i))) (from-more 1 m) ∙ sum-append (λ i. f (a + i)) (from 1 m) ((1 + m) ∷ []) ∙ omega (arith, ap f last))
+        where
+          last : a + (1 + m) ≡ a + m + 1
+          last = omega arith
+
+  -- a sum of numbers, none of them above b
+  pub sum-most : (b m : ℕ) → ((k : ℕ) → 1 ≤ k → k ≤ m → f k ≤ b) → sum f (from 1 m) ≤ m * b
+  sum-most b zero h = omega arith
+  sum-most b (suc m) h =
+      omega (
+        arith,
+        ap (λ k. sum f (from 1 k)) (add-one m),
+        sum-next m,
+        sum-most b m (λ k p q. h k p (omega arith)),
+        h (m + 1) (omega arith) (omega arith),
+        suc-mul m b,
+      )
+
+-- the same numbers have the same sum
+pub sum-alike : (f g : ℕ → ℕ) (m : ℕ) → ((k : ℕ) → 1 ≤ k → k ≤ m → f k ≡ g k) → sum f (from 1 m) ≡ sum g (from 1 m)
+sum-alike f g zero h = refl
+sum-alike f g (suc m) h =
+    omega (
+      arith,
+      ap (λ k. sum f (from 1 k)) (add-one m),
+      ap (λ k. sum g (from 1 k)) (add-one m),
+      sum-next f m,
+      sum-next g m,
+      sum-alike f g m (λ k p q. h k p (omega arith)),
+      h (m + 1) (omega arith) (omega arith),
+    )

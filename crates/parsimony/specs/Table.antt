@@ -4,7 +4,7 @@
 use mathlib.Core.Path.{_≡_}
 use mathlib.Core.Logic.{_≢_}
 use mathlib.Core.List.{List, [], _∷_}
-use Prim.Native.Nat.{ℕ, zero, suc, _+_, _≤_, _<_}
+use Prim.Native.Nat.{ℕ, zero, suc, _+_, _≤_, _<_, min}
 use native.Mathlib.Decide.{ℕ-discrete}
 use lib.ListN.{length, getD}
 use Rattle.parsimony.specs.Lists.{from, choose, same, without}
@@ -37,6 +37,11 @@ sisters tree v = without v (descendants tree (ancestor tree v))
 abbrev pub climb : List ℕ → ℕ → ℕ → ℕ
 climb tree zero k = k
 climb tree (suc s) k = climb tree s (ancestor tree k)
+
+-- how many nodes a climb from k has in its first s steps: 0 is none
+abbrev pub deep : List ℕ → ℕ → ℕ → ℕ
+deep tree zero k = 0
+deep tree (suc s) k = min 1 k + deep tree s (ancestor tree k)
 
 -- how often climbing from k stands at v in its first s steps, the start among them
 abbrev pub meets : List ℕ → ℕ → ℕ → ℕ → ℕ

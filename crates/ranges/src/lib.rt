@@ -13,13 +13,15 @@ pub struct Range {
     pub high: u16,
 }
 
-fn smaller(a: u16, b: u16) -> u16
+// The smaller of two states.
+pub fn smaller(a: u16, b: u16) -> u16
     ensures { λ r. ⌜ r ≡ Prim.Native.Nat.min a b ⌝ }
 {
     if a < b { a } else { b }
 }
 
-fn larger(a: u16, b: u16) -> u16
+// The larger of two states.
+pub fn larger(a: u16, b: u16) -> u16
     ensures { λ r. ⌜ r ≡ Prim.Native.Nat.max a b ⌝ }
 {
     if a < b { b } else { a }

@@ -1,6 +1,10 @@
 -- How the lists are filled, entry by entry.
 --     Listing     the two descendants of each interior node
 --     Paths       the path from a node to the root
+--     Subtrees    the subtree of a node
+--     Queues      the order of the interior nodes
 -- Assumes nothing.
 mod Listing
 pub mod Paths
+pub mod Subtrees
+mod Queues

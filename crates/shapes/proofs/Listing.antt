@@ -122,8 +122,8 @@ module _ (n a node : ℕ) where
 
 module _ (n : ℕ) (tree : List ℕ) where
   pub record ListsTo (k : ℕ) (left right : List ℕ) : Type 0 where
-    pub lefts : length left ≡ n - 2
-    pub rights : length right ≡ n - 2
+    pub lefts : length left ≡ 254
+    pub rights : length right ≡ 254
     pub firsts : (v : ℕ) → n < v → v ≤ length tree → atNode n left v ≡ first (met tree k v)
     pub lasts : (v : ℕ) → n < v → v ≤ length tree → 1 ≤ length (met tree k v) → atNode n right v ≡ last (met tree k v)
 
@@ -137,18 +137,18 @@ module _ (n : ℕ) (tree : List ℕ) where
         lasts = λ v lo hi h. let z : ⊥ = omega arith in absurd z;
       }
 
-  module _ (k a : ℕ) (e : a ≡ getD tree k 0) (left right : List ℕ) (S : length tree ≡ 2 * n - 2) (H : ListsTo k left right) where
+  module _ (k a : ℕ) (e : a ≡ getD tree k 0) (left right : List ℕ) (S : length tree ≡ 2 * n - 2) (M : n ≤ 256) (H : ListsTo k left right) where
     abbrev left′ : List ℕ
     left′ = leftWith n a (k + 1) left
 
     abbrev right′ : List ℕ
     right′ = rightWith n a (k + 1) right
 
-    long-left : (d : Dec (a ≤ n)) → length (choose d left (set left (a - n - 1) (firstOf (getD left (a - n - 1) 0) (k + 1)))) ≡ n - 2
+    long-left : (d : Dec (a ≤ n)) → length (choose d left (set left (a - n - 1) (firstOf (getD left (a - n - 1) 0) (k + 1)))) ≡ 254
     long-left (yes l) = H .lefts
     long-left (no l) = simp length-set (H .lefts)
 
-    long-right : (d : Dec (a ≤ n)) → length (choose d right (set right (a - n - 1) (k + 1))) ≡ n - 2
+    long-right : (d : Dec (a ≤ n)) → length (choose d right (set right (a - n - 1) (k + 1))) ≡ 254
     long-right (yes l) = H .rights
     long-right (no l) = simp length-set (H .rights)
 
@@ -202,11 +202,11 @@ module _ (n : ℕ) (tree : List ℕ) where
             ∙ sym (ap last (met-no tree k v (λ q. r (q ∙ sym e))))
 
   -- the same, of lists that were written so
-  pub lists-after : (k a : ℕ) (left right left′ right′ : List ℕ) → a ≡ getD tree k 0 → length tree ≡ 2 * n - 2 → ListsTo k left right
+  pub lists-after : (k a : ℕ) (left right left′ right′ : List ℕ) → a ≡ getD tree k 0 → length tree ≡ 2 * n - 2 → n ≤ 256 → ListsTo k left right
       → left′ ≡ leftWith n a (k + 1) left → right′ ≡ rightWith n a (k + 1) right → ListsTo (k + 1) left′ right′
-  lists-after k a left right left′ right′ e S H l r =
+  lists-after k a left right left′ right′ e S M H l r =
       subst (λ xs. ListsTo (k + 1) xs right′) (sym l)
-      (subst (λ ys. ListsTo (k + 1) (leftWith n a (k + 1) left) ys) (sym r) (lists-more k a e left right S H))
+      (subst (λ ys. ListsTo (k + 1) (leftWith n a (k + 1) left) ys) (sym r) (lists-more k a e left right S M H))
 
   pub lists-all : (k : ℕ) (left right : List ℕ) → k ≡ length tree
       → ((v : ℕ) → n < v → v ≤ length tree → length (descendants tree v) ≡ 2) → ListsTo k left right → Filled n tree left right

@@ -7,7 +7,7 @@ use Prim.Native.Nat.{ℕ, zero, suc, _+_, _-_, _*_, _≤_, _<_}
 use native.Mathlib.Decide.{ℕ-discrete, decLe}
 use native.Mathlib.Numerals.{add-one}
 use native.Mathlib.Omega.{arith}
-use lib.ListN.{length, set, length-set}
+use lib.ListN.{length, getD, set, length-set}
 use lib.Seq.{sets}
 use Rattle.parsimony.specs.Lists.{sum, from, choose, same}
 use Rattle.parsimony.specs.Table.{ancestor, descendants, climb, meets, below, IsTree, Accepted}
@@ -25,8 +25,8 @@ use Rattle.parsimony.proofs.Sums.{
   length-from,
 }
 use Rattle.parsimony.proofs.Tables.Descendants.{past-table, often-descendants}
-use Rattle.parsimony.proofs.Tables.Climbing.{climb-more, meets-none}
-use Rattle.parsimony.proofs.Tables.Trees.{Tree, out, meets-least, meets-all}
+use Rattle.parsimony.proofs.Tables.Climbing.{climb-none, climb-add, climb-more, meets-none}
+use Rattle.parsimony.proofs.Tables.Trees.{Tree, out, meets-least, meets-all, below-steps}
 use Rattle.shapes.specs.Shape.{between, pathBy, pathOf}
 use Rattle.shapes.specs.Filling.{Pathable, IsPath}
 
@@ -107,6 +107,71 @@ module _ (T : Tree) where
         length-from (suc n) (length tree - n),
       )
 
+-- ---- the nodes of the path, one by one
+
+module _ (n : ℕ) (tree : List ℕ) where
+  -- each is the next of the climb, and interior
+  path-by-at : (s k i : ℕ) → i < length (pathBy n tree s k) → (getD (pathBy n tree s k) i 0 ≡ climb tree (suc i) k) × (n < climb tree (suc i) k)
+  unfolding pathBy
+  path-by-at zero k i l = absurd (omega arith)
+  path-by-at (suc s) k i l = go (decLe (ancestor tree k) n) i l (λ j m. path-by-at s (ancestor tree k) j m)
+    where
+      go : (d : Dec (ancestor tree k ≤ n)) (i : ℕ) → i < length (choose d [] (ancestor tree k ∷ pathBy n tree s (ancestor tree k)))
+          → ((j : ℕ) → j < length (pathBy n tree s (ancestor tree k))
+          → (getD (pathBy n tree s (ancestor tree k)) j 0 ≡ climb tree (suc j) (ancestor tree k)) × (n < climb tree (suc j) (ancestor tree k)))
+          → (getD (choose d [] (ancestor tree k ∷ pathBy n tree s (ancestor tree k))) i 0 ≡ climb tree (suc i) k) × (n < climb tree (suc i) k)
+      go (yes e) i m h = absurd (omega arith)
+      go (no e) zero m h = (refl, omega arith)
+      go (no e) (suc i) m h = h i (omega arith)
+
+  -- and behind the last of them the climb is at a taxon, or out
+  path-by-ends : (s k : ℕ) → climb tree s k ≡ 0 → climb tree (suc (length (pathBy n tree s k))) k ≤ n
+  unfolding pathBy
+  path-by-ends zero k e = let z : ancestor tree k ≡ 0 = ap (ancestor tree) e in omega arith
+  path-by-ends (suc s) k e = go (decLe (ancestor tree k) n) (path-by-ends s (ancestor tree k) e)
+    where
+      go : (d : Dec (ancestor tree k ≤ n))
+          → climb tree (suc (length (pathBy n tree s (ancestor tree k)))) (ancestor tree k) ≤ n
+          → climb tree (suc (length (choose d [] (ancestor tree k ∷ pathBy n tree s (ancestor tree k))))) k ≤ n
+      go (yes l) h = l
+      go (no l) h = h
+
+module _ (T : Tree) where
+  open Tree T using (n, tree)
+
+  -- a climb that comes to v, where it is at a taxon or out after L steps more than one
+  on-path : (k v : ℕ) → n < v → (L : ℕ) → climb tree (suc L) k ≤ n → (s : ℕ) → climb tree (suc s) k ≡ v → (i : ℕ) × (i < L)
+      × (climb tree (suc i) k ≡ v)
+  on-path k v lo L ends s e = go (decLe L s)
+    where
+      stop : ancestor tree (climb tree L k) ≤ n
+      stop = subst (λ x. x ≤ n) (climb-more tree L k) ends
+
+      -- from there on the climb is at a taxon, or out
+      past : (r : ℕ) → climb tree r (ancestor tree (climb tree L k)) ≤ n
+      past zero = stop
+      past (suc r) =
+          let z : climb tree r (ancestor tree (ancestor tree (climb tree L k))) ≡ 0 = ap (climb tree r) (top T (climb tree L k) stop)
+          ∙ climb-none tree r in
+          omega arith
+
+      go : Dec (L ≤ s) → (i : ℕ) × (i < L) × (climb tree (suc i) k ≡ v)
+      go (no l) = (s, omega arith, e)
+      go (yes l) =
+          let split : L + suc (s - L) ≡ suc s = omega arith in
+          let same-climb : climb tree (suc s) k ≡ climb tree (s - L) (ancestor tree (climb tree L k)) =
+          ap (λ x. climb tree x k) (sym split) ∙ climb-add tree L (suc (s - L)) k in
+          absurd (omega (arith, past (s - L)))
+
+  pub path-at : (k i : ℕ) → i < length (pathOf n tree k) → (getD (pathOf n tree k) i 0 ≡ climb tree (suc i) k) × (n < climb tree (suc i) k)
+  path-at k i l = path-by-at n tree (length tree) k i l
+
+  -- every interior node above k is on the path
+  pub path-all : (k v : ℕ) → n < v → 1 ≤ below tree v k → (i : ℕ) × (i < length (pathOf n tree k)) × (climb tree (suc i) k ≡ v)
+  path-all k v lo h =
+      let (s, e) = below-steps T v k (omega arith) h in
+      on-path k v lo (length (pathOf n tree k)) (path-by-ends n tree (length tree) k (out T k)) s e
+
 -- ---- a loop that climbs from k and lists what it passes
 
 module _ (n : ℕ) (tree : List ℕ) where
@@ -164,6 +229,7 @@ module _ (n : ℕ) (tree : List ℕ) (k : ℕ) (path₀ : List ℕ) (P : Pathabl
             P .long,
             P .sized .nodes,
             P .sized .least,
+            P .sized .most,
           )
 
       -- and a step more to go

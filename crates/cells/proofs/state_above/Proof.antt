@@ -12,7 +12,8 @@ use Rattle.refusals.specs.declared.Found.the-variants.{Nowhere}
 use Rattle.refusals.specs.Search.{Never}
 use Rattle.refusals.proofs.Laws.{never-none, never-all}
 use Rattle.cells.specs.Above.{AboveAt}
-use Rattle.cells.proofs.Passing.{cell-in, found-cell, passed-cell}
+use Rattle.parsimony.proofs.Matrices.{cell-in}
+use Rattle.cells.proofs.Passing.{found-cell, passed-cell}
 use Rattle.cells.proofs.state_above.Statement.{statement}
 use Rattle.cells.proofs.state_above.Tie as tie
 

@@ -7,7 +7,8 @@ use lib.ListN.{length}
 use Rattle.refusals.specs.Search.{Never}
 use Rattle.refusals.proofs.Laws.{never-none, never-all}
 use Rattle.cells.specs.Above.{AboveIn}
-use Rattle.cells.proofs.Passing.{cell-in, found-taxon, passed-taxon}
+use Rattle.parsimony.proofs.Matrices.{cell-in}
+use Rattle.cells.proofs.Passing.{found-taxon, passed-taxon}
 use Rattle.cells.proofs.taxon_above.Statement.{statement}
 use Rattle.cells.proofs.taxon_above.Tie as tie
 

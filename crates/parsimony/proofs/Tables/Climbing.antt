@@ -8,7 +8,7 @@ use native.Mathlib.Decide.{ℕ-discrete, decLe}
 use native.Mathlib.Omega.{arith}
 use lib.ListN.{length}
 use Rattle.parsimony.specs.Lists.{sum, from, same}
-use Rattle.parsimony.specs.Table.{ancestor, nodes, descendants, climb, meets}
+use Rattle.parsimony.specs.Table.{ancestor, nodes, descendants, climb, meets, deep}
 use Rattle.parsimony.proofs.Sums.{
   same-self,
   same-apart,
@@ -27,11 +27,6 @@ use Rattle.parsimony.proofs.Sums.{
 use Rattle.parsimony.proofs.Tables.Descendants.{often-descendants}
 
 module _ (tree : List ℕ) where
-  -- how many nodes a climb has in its first s steps: 0 is none
-  abbrev pub deep : ℕ → ℕ → ℕ
-  deep zero k = 0
-  deep (suc s) k = min 1 k + deep s (ancestor tree k)
-
   pub climb-none : (s : ℕ) → climb tree s 0 ≡ 0
   climb-none zero = refl
   climb-none (suc s) = climb-none s
@@ -79,11 +74,11 @@ module _ (tree : List ℕ) where
   meets-stable zero v k h e = omega (arith, same-apart v k (omega arith))
   meets-stable (suc s) v k h e = omega (arith, meets-stable s v (ancestor tree k) h e)
 
-  deep-stable : (s k : ℕ) → climb tree s k ≡ 0 → deep (suc s) k ≡ deep s k
+  deep-stable : (s k : ℕ) → climb tree s k ≡ 0 → deep tree (suc s) k ≡ deep tree s k
   deep-stable zero k e = omega arith
   deep-stable (suc s) k e = omega (arith, deep-stable s (ancestor tree k) e)
 
-  pub deep-most : (s k : ℕ) → deep s k ≤ s
+  pub deep-most : (s k : ℕ) → deep tree s k ≤ s
   deep-most zero k = omega arith
   deep-most (suc s) k = omega (arith, deep-most s (ancestor tree k))
 
@@ -101,14 +96,14 @@ module _ (tree : List ℕ) where
   -- every climb is out after F steps
   module _ (F : ℕ) (out : (k : ℕ) → climb tree F k ≡ 0) where
     -- a node is one deeper than its ancestor
-    pub deeper : (k : ℕ) → deep F k ≡ min 1 k + deep F (ancestor tree k)
+    pub deeper : (k : ℕ) → deep tree F k ≡ min 1 k + deep tree F (ancestor tree k)
     deeper k = sym (deep-stable F k (out k))
 
-    meets-deep : (s v k : ℕ) → 1 ≤ meets tree s v k → deep F v ≤ deep F k
+    meets-deep : (s v k : ℕ) → 1 ≤ meets tree s v k → deep tree F v ≤ deep tree F k
     meets-deep zero v k h = omega arith
     meets-deep (suc s) v k h = go (meets-deep s v (ancestor tree k)) (ℕ-discrete v k)
       where
-        go : (1 ≤ meets tree s v (ancestor tree k) → deep F v ≤ deep F (ancestor tree k)) → Dec (v ≡ k) → deep F v ≤ deep F k
+        go : (1 ≤ meets tree s v (ancestor tree k) → deep tree F v ≤ deep tree F (ancestor tree k)) → Dec (v ≡ k) → deep tree F v ≤ deep tree F k
         go ih (yes e) = rw e (omega arith)
         go ih (no e) = omega (arith, deeper k, ih (omega (arith, same-apart v k e)))
 
@@ -119,13 +114,13 @@ module _ (tree : List ℕ) where
       where
         go : meets tree s v (ancestor tree k) ≤ 1 → Dec (v ≡ k) → Dec (1 ≤ meets tree s v (ancestor tree k))
             → same v k + meets tree s v (ancestor tree k) ≤ 1
-        go ih (yes e) (yes l) = omega (arith, meets-deep s v (ancestor tree k) l, deeper k, ap (λ j. deep F j) e)
+        go ih (yes e) (yes l) = omega (arith, meets-deep s v (ancestor tree k) l, deeper k, ap (λ j. deep tree F j) e)
         go ih (yes e) (no l) = omega (arith, same-small v k)
         go ih (no e) d = omega (arith, same-apart v k e)
 
     -- as many steps as there are nodes lead out, where each entry is a node or 0
     module _ (within : (k : ℕ) → ancestor tree k ≤ length tree) where
-      deep-sum : (s k : ℕ) → k ≤ length tree → deep s k ≡ sum (λ v. meets tree s v k) (nodes tree)
+      deep-sum : (s k : ℕ) → k ≤ length tree → deep tree s k ≡ sum (λ v. meets tree s v k) (nodes tree)
       deep-sum zero k l = sym (sum-zero (nodes tree))
       deep-sum (suc s) zero l =
           omega (
@@ -142,16 +137,16 @@ module _ (tree : List ℕ) where
             deep-sum s (ancestor tree (suc i)) (within (suc i)),
           )
 
-      climb-deep : (s k : ℕ) → climb tree s k ≡ 0 → climb tree (deep s k) k ≡ 0
+      climb-deep : (s k : ℕ) → climb tree s k ≡ 0 → climb tree (deep tree s k) k ≡ 0
       climb-deep zero k e = e
-      climb-deep (suc s) zero e = climb-none (deep (suc s) 0)
+      climb-deep (suc s) zero e = climb-none (deep tree (suc s) 0)
       climb-deep (suc s) (suc i) e =
-          let q : deep (suc s) (suc i) ≡ suc (deep s (ancestor tree (suc i))) = omega arith in
+          let q : deep tree (suc s) (suc i) ≡ suc (deep tree s (ancestor tree (suc i))) = omega arith in
           rw q (climb-deep s (ancestor tree (suc i)) e)
 
       pub out-soon : (k : ℕ) → k ≤ length tree → climb tree (length tree) k ≡ 0
       out-soon k l =
-          climb-on (deep F k) (length tree) k
+          climb-on (deep tree F k) (length tree) k
           (omega (
             arith,
             deep-sum F k l,

@@ -9,11 +9,11 @@ use native.Mathlib.Decide.{decLe}
 use native.Mathlib.Omega.{arith}
 use lib.ListN.{length}
 use Rattle.parsimony.specs.Lists.{sum, same}
-use Rattle.parsimony.specs.Table.{ancestor, descendants, meets, below, IsTree}
+use Rattle.parsimony.specs.Table.{ancestor, descendants, meets, below, IsTree, deep}
 use Rattle.parsimony.proofs.Sums.{All, all-map, same-apart}
 use Rattle.parsimony.proofs.Rose.Shapes.{Rose, Roses, tip, node, one, more, top, count, counts, Distinct}
 use Rattle.parsimony.proofs.Tables.Descendants.{past-table, Descends, each-descends}
-use Rattle.parsimony.proofs.Tables.Climbing.{deep, deep-most, deeper, meets-descendants}
+use Rattle.parsimony.proofs.Tables.Climbing.{deep-most, deeper, meets-descendants}
 use Rattle.parsimony.proofs.Tables.Trees.{Tree, out, meets-all, meets-least, no-ancestor}
 
 -- the tops of a list of trees

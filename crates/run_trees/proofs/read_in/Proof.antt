@@ -11,7 +11,8 @@ slice-relend-prefix-read-and-answer : tie.Need-slice-relend-prefix-read-and-answ
 slice-relend-prefix-read-and-answer c = search needs
 
 slice-aggregate-read-and-answer : tie.Need-slice-aggregate-read-and-answer
-slice-aggregate-read-and-answer c = sym (length-take _ ((c .before .before .before) .args .room .now) ∙ min-eq-left ((c .before .before .before) .pre))
+slice-aggregate-read-and-answer c =
+    sym (length-take _ ((c .before .before .before) .args .room .now) ∙ min-eq-left ((c .before .before .before) .pre))
 
 read-and-answer-requires : tie.Need-read-and-answer-requires
 read-and-answer-requires c κs = search needs

@@ -18,52 +18,47 @@ abbrev μ-loop : tie.MeasureT-loop
 μ-loop n tree left₀ right₀ k₀ left right k = length tree - k
 
 -- where the proof stands, and what came before
-abbrev start-of-slice-known2 : tie.After-slice-known2 Inv-loop μ-loop → tie.Start Inv-loop μ-loop
-start-of-slice-known2 c = c .before .before .before
+abbrev start-of-loop : tie.After-loop Inv-loop μ-loop → tie.Start Inv-loop μ-loop
+start-of-loop c = c .before .before .before
 
-abbrev note-of-slice-known4 : tie.After-slice-known4 Inv-loop μ-loop → tie.After-note Inv-loop μ-loop
-note-of-slice-known4 c = c .before .before .before .before
+abbrev wide-of-note : tie.After-note Inv-loop μ-loop → tie.After-wide Inv-loop μ-loop
+wide-of-note c = c .before .before .before
 
-abbrev at-loop-of-note-arg2 : tie.After-note-arg2 Inv-loop μ-loop → tie.At-loop Inv-loop μ-loop
-at-loop-of-note-arg2 c = c .before .before .before .before .before
+abbrev at-loop-of-wide : tie.After-wide Inv-loop μ-loop → tie.At-loop Inv-loop μ-loop
+at-loop-of-wide c = c .before .before .before
 
 abbrev start-of-in-loop : tie.In-loop Inv-loop μ-loop → tie.Start Inv-loop μ-loop
-start-of-in-loop c = start-of-slice-known2 (c .before .before)
+start-of-in-loop c = c .before .before .before
 
-abbrev start-of-loop : tie.After-loop Inv-loop μ-loop → tie.Start Inv-loop μ-loop
-start-of-loop c = start-of-slice-known2 (c .before .before)
+abbrev start-of-wide : tie.After-wide Inv-loop μ-loop → tie.Start Inv-loop μ-loop
+start-of-wide c = start-of-in-loop (c .before .before)
 
-abbrev wide-of-slice-known4 : tie.After-slice-known4 Inv-loop μ-loop → tie.After-wide Inv-loop μ-loop
-wide-of-slice-known4 c = c .before .before .before .before .before .before .before
+abbrev at-loop-of-note : tie.After-note Inv-loop μ-loop → tie.At-loop Inv-loop μ-loop
+at-loop-of-note c = at-loop-of-wide (c .before .before .before)
 
 abbrev start-of-note-arg2 : tie.After-note-arg2 Inv-loop μ-loop → tie.Start Inv-loop μ-loop
-start-of-note-arg2 c = start-of-in-loop (c .before .before .before .before)
+start-of-note-arg2 c = start-of-wide (c .before .before)
 
-abbrev at-loop-of-slice-known4 : tie.After-slice-known4 Inv-loop μ-loop → tie.At-loop Inv-loop μ-loop
-at-loop-of-slice-known4 c = at-loop-of-note-arg2 (c .before .before .before .before .before)
-
-abbrev start-of-slice-known4 : tie.After-slice-known4 Inv-loop μ-loop → tie.Start Inv-loop μ-loop
-start-of-slice-known4 c = start-of-note-arg2 (c .before .before .before .before .before)
+abbrev start-of-note : tie.After-note Inv-loop μ-loop → tie.Start Inv-loop μ-loop
+start-of-note c = start-of-note-arg2 (c .before)
 
 small : (c : tie.Start Inv-loop μ-loop) → length (c .args .tree .now) ≤ 510
 small c = omega (arith, c .pre .sized .nodes, c .pre .sized .most)
 
 -- the entry is a node
-entry : (c : tie.After-note-arg2 Inv-loop μ-loop) → (c .before .before) .wide .result ≤ length ((start-of-note-arg2 c) .args .tree .now)
+entry : (c : tie.After-wide Inv-loop μ-loop) → c .wide .result ≤ length ((start-of-wide c) .args .tree .now)
 entry c =
     omega (
       arith,
-      (c .before .before) .wide .ensures,
-      entry-at ((start-of-note-arg2 c) .args .tree .now) ((at-loop-of-note-arg2 c) .loop .k),
-      (start-of-note-arg2 c) .pre .within ((at-loop-of-note-arg2 c) .loop .k + 1),
+      c .wide .ensures,
+      entry-at ((start-of-wide c) .args .tree .now) ((at-loop-of-wide c) .loop .k),
+      (start-of-wide c) .pre .within
+          ((at-loop-of-wide c) .loop .k + 1),
     )
 
 loop-holds : tie.Need-loop-holds Inv-loop μ-loop
-loop-holds c = (
-  search needs,
-  lists-none _ ((start-of-slice-known2 c) .args .tree .now) ((start-of-slice-known2 c) .args .left .now)
-      ((start-of-slice-known2 c) .args .right .now) ((start-of-slice-known2 c) .pre),
-)
+loop-holds c =
+    (omega arith, lists-none _ ((c .before) .args .tree .now) ((c .before) .args .left .now) ((c .before) .args .right .now) ((c .before) .pre))
 
 add-node : tie.Need-add-node Inv-loop μ-loop
 add-node c = search needs
@@ -83,16 +78,12 @@ wide-requires c κs = search needs
 note-requires : tie.Need-note-requires Inv-loop μ-loop
 note-requires c κs = (
   omega (arith, (start-of-note-arg2 c) .pre .sized .most),
-  omega (arith, entry c, small (start-of-note-arg2 c)),
   omega (
     arith,
-    entry c,
-    (at-loop-of-note-arg2 c) .loop .inv .1 .lefts,
+    entry (c .before .before),
     (start-of-note-arg2 c) .pre .sized .nodes,
-    (start-of-note-arg2 c) .pre .sized
-        .least,
+    (start-of-note-arg2 c) .pre .sized .most,
   ),
-  (at-loop-of-note-arg2 c) .loop .inv .1 .lefts ∙ sym ((at-loop-of-note-arg2 c) .loop .inv .1 .rights),
 )
 
 add-k : tie.Need-add-k Inv-loop μ-loop
@@ -104,16 +95,11 @@ loop-less c = search needs
 loop-again : tie.Need-loop-again Inv-loop μ-loop
 loop-again c = (
   search needs,
-  lists-after _ ((start-of-slice-known4 c) .args .tree .now) _ _ ((at-loop-of-slice-known4 c) .loop .left) ((at-loop-of-slice-known4 c) .loop .right)
-      _ _ ((wide-of-slice-known4 c) .wide .ensures) ((start-of-slice-known4 c) .pre .sized .nodes)
-      ((at-loop-of-slice-known4 c) .loop .inv .1) ((note-of-slice-known4 c) .note .ensures .0) ((note-of-slice-known4 c) .note .ensures .1),
+  lists-after _ ((start-of-note c) .args .tree .now) _ _ ((at-loop-of-note c) .loop .left) ((at-loop-of-note c) .loop .right) _ _
+      ((wide-of-note c) .wide .ensures) ((start-of-note c) .pre .sized .nodes) ((start-of-note c) .pre .sized .most)
+      ((at-loop-of-note c) .loop .inv .1)
+      (c .note .ensures .0) (c .note .ensures .1),
 )
-
-same-length : tie.Need-same-length Inv-loop μ-loop
-same-length c = (c .before) .loop .inv .1 .lefts ∙ sym ((start-of-loop c) .pre .lefts)
-
-same-length-2 : tie.Need-same-length-2 Inv-loop μ-loop
-same-length-2 c = (c .before) .loop .inv .1 .rights ∙ sym ((start-of-loop c) .pre .rights)
 
 returns : tie.Need-returns Inv-loop μ-loop
 returns c =
@@ -136,6 +122,4 @@ descendants-spec =
     add-k
     loop-less
     loop-again
-    same-length
-    same-length-2
     returns)

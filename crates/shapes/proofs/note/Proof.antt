@@ -1,16 +1,14 @@
 -- `note` notes a descendant of an interior node, and changes nothing at a taxon.
 -- Assumes nothing.
 use borrow.Author.Needs.{needs}
+use native.Mathlib.Omega.{arith}
 use Rattle.shapes.proofs.Listing.{noted-left, noted-right, left-kept, right-kept}
 use Rattle.shapes.proofs.note.Statement.{statement}
 use Rattle.shapes.proofs.note.Tie as tie
 
 -- where the proof stands, and what came before
-abbrev start-of-else1 : tie.Else1 → tie.Start
-start-of-else1 c = c .before .before .before
-
 abbrev start-of-first-of : tie.After-first-of → tie.Start
-start-of-first-of c = c .before .before .before .before .before
+start-of-first-of c = c .before .before .before
 
 sub-at : tie.Need-sub-at
 sub-at c = search needs
@@ -21,8 +19,8 @@ sub-at-2 c = search needs
 mul-first-of : tie.Need-mul-first-of
 mul-first-of c = search needs
 
-slice-read-first-of : tie.Need-slice-read-first-of
-slice-read-first-of c = search needs
+element-copy-out-first-of : tie.Need-element-copy-out-first-of
+element-copy-out-first-of c = search needs
 
 first-of-requires : tie.Need-first-of-requires
 first-of-requires c κs = search needs
@@ -30,20 +28,14 @@ first-of-requires c κs = search needs
 mul-left : tie.Need-mul-left
 mul-left c = search needs
 
-slice-write-left : tie.Need-slice-write-left
-slice-write-left c = search needs
+element-write-left : tie.Need-element-write-left
+element-write-left c = search needs
 
 mul-right : tie.Need-mul-right
 mul-right c = search needs
 
-slice-write-right : tie.Need-slice-write-right
-slice-write-right c = search needs
-
-same-length : tie.Need-same-length
-same-length c = search needs
-
-same-length-2 : tie.Need-same-length-2
-same-length-2 c = search needs
+element-write-right : tie.Need-element-write-right
+element-write-right c = search needs
 
 returns : tie.Need-returns
 returns c = (
@@ -53,8 +45,7 @@ returns c = (
 )
 
 returns-2 : tie.Need-returns-2
-returns-2 c =
-    (left-kept _ _ _ ((start-of-else1 c) .args .left .now) (c .if1 .left), right-kept _ _ _ ((start-of-else1 c) .args .right .now) (c .if1 .left))
+returns-2 c = (left-kept _ _ _ ((c .before) .args .left .now) (c .if1 .left), right-kept _ _ _ ((c .before) .args .right .now) (c .if1 .left))
 
 pub note-spec : {M : Type 1} → statement M
 note-spec =
@@ -63,13 +54,11 @@ note-spec =
     sub-at
     sub-at-2
     mul-first-of
-    slice-read-first-of
+    element-copy-out-first-of
     first-of-requires
     mul-left
-    slice-write-left
+    element-write-left
     mul-right
-    slice-write-right
-    same-length
-    same-length-2
+    element-write-right
     returns
     returns-2)

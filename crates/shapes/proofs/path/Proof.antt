@@ -1,6 +1,5 @@
 -- `path` lists the interior nodes between a node and the root. The invariant: so many are listed, and the rest is the path from where the climb
--- stands.
--- The measure is the room that is left in the list.
+-- stands. The measure is the room that is left in the list.
 -- Assumes nothing.
 use borrow.Author.Needs.{needs}
 use native.Mathlib.Omega.{arith}
@@ -16,23 +15,20 @@ abbrev Inv-loop : tie.InvT-loop
 Inv-loop n tree node path₀ count₀ at₀ path count at = WalkedTo n tree node path₀ count at path
 
 abbrev μ-loop : tie.MeasureT-loop
-μ-loop n tree node path₀ count₀ at₀ path count at = length path - count
+μ-loop n tree node path₀ count₀ at₀ path count at = 254 - count
 
 -- where the proof stands, and what came before
-abbrev start-of-shared-slice-known2 : tie.After-shared-slice-known2 Inv-loop μ-loop → tie.Start Inv-loop μ-loop
-start-of-shared-slice-known2 c = c .before .before .before
+abbrev start-of-wide : tie.After-wide Inv-loop μ-loop → tie.Start Inv-loop μ-loop
+start-of-wide c = c .before .before .before
 
 abbrev at-loop-of-wide2 : tie.After-wide2 Inv-loop μ-loop → tie.At-loop Inv-loop μ-loop
 at-loop-of-wide2 c = c .before .before .before
 
-abbrev start-of-wide : tie.After-wide Inv-loop μ-loop → tie.Start Inv-loop μ-loop
-start-of-wide c = start-of-shared-slice-known2 (c .before)
+abbrev start-of-loop : tie.After-loop Inv-loop μ-loop → tie.Start Inv-loop μ-loop
+start-of-loop c = start-of-wide (c .before .before)
 
 abbrev start-of-in-loop : tie.In-loop Inv-loop μ-loop → tie.Start Inv-loop μ-loop
 start-of-in-loop c = start-of-wide (c .before .before)
-
-abbrev start-of-loop : tie.After-loop Inv-loop μ-loop → tie.Start Inv-loop μ-loop
-start-of-loop c = start-of-wide (c .before .before)
 
 abbrev start-of-wide2 : tie.After-wide2 Inv-loop μ-loop → tie.Start Inv-loop μ-loop
 start-of-wide2 c = start-of-in-loop (c .before .before)
@@ -40,22 +36,24 @@ start-of-wide2 c = start-of-in-loop (c .before .before)
 small : (c : tie.Start Inv-loop μ-loop) → length (c .args .tree .now) ≤ 510
 small c = omega (arith, c .pre .sized .nodes, c .pre .sized .most)
 
-long : (c : tie.In-loop Inv-loop μ-loop) → length ((c .before) .loop .path) ≡ (start-of-in-loop c) .args .n - 2
-long c = (c .before) .loop .inv .long ∙ (start-of-in-loop c) .pre .long
-
-has-room : (c : tie.In-loop Inv-loop μ-loop) → (c .before) .loop .count < length ((c .before) .loop .path)
+has-room : (c : tie.In-loop Inv-loop μ-loop) → (c .before) .loop .count < 254
 has-room c =
-    room _ ((start-of-in-loop c) .args .tree .now) _ ((start-of-in-loop c) .args .path .now) ((start-of-in-loop c) .pre) _ _ ((c .before) .loop .path)
-    ((c .before) .loop .inv) (c .loop-test .taken)
+    omega (
+      arith,
+      room _ ((start-of-in-loop c) .args .tree .now) _ ((start-of-in-loop c) .args .path .now) ((start-of-in-loop c) .pre) _ _
+          ((c .before) .loop .path) ((c .before) .loop .inv) (c .loop-test .taken),
+      (c .before) .loop .inv .long,
+      (start-of-in-loop c) .pre .long,
+    )
 
 sub-wide : tie.Need-sub-wide Inv-loop μ-loop
-sub-wide c = omega (arith, (c .before .before) .pre .some)
+sub-wide c = (c .before) .pre .some
 
 mul-wide : tie.Need-mul-wide Inv-loop μ-loop
-mul-wide c = omega (arith, small (c .before .before), (c .before .before) .pre .most)
+mul-wide c = omega (arith, small (c .before), (c .before) .pre .most)
 
 shared-slice-read-wide : tie.Need-shared-slice-read-wide Inv-loop μ-loop
-shared-slice-read-wide c = omega (arith, (start-of-shared-slice-known2 c) .pre .some, (start-of-shared-slice-known2 c) .pre .most)
+shared-slice-read-wide c = omega (arith, (c .before .before) .pre .some, (c .before .before) .pre .most)
 
 wide-requires : tie.Need-wide-requires Inv-loop μ-loop
 wide-requires c κs = search needs
@@ -69,13 +67,13 @@ cast-path : tie.Need-cast-path Inv-loop μ-loop
 cast-path c = omega (arith, (c .before) .loop .inv .most, small (start-of-in-loop c))
 
 mul-path : tie.Need-mul-path Inv-loop μ-loop
-mul-path c = omega (arith, has-room c, long c, (start-of-in-loop c) .pre .sized .most)
+mul-path c = omega (arith, has-room c)
 
-slice-write-path : tie.Need-slice-write-path Inv-loop μ-loop
-slice-write-path c = has-room c
+element-write-path : tie.Need-element-write-path Inv-loop μ-loop
+element-write-path c = has-room c
 
 add-count : tie.Need-add-count Inv-loop μ-loop
-add-count c = omega (arith, has-room c, long c, (start-of-in-loop c) .pre .sized .most)
+add-count c = omega (arith, has-room c)
 
 sub-wide-2 : tie.Need-sub-wide-2 Inv-loop μ-loop
 sub-wide-2 c = omega (arith, c .loop-test .taken)
@@ -90,16 +88,13 @@ wide-requires-2 : tie.Need-wide-requires-2 Inv-loop μ-loop
 wide-requires-2 c κs = search needs
 
 loop-less : tie.Need-loop-less Inv-loop μ-loop
-loop-less c = simp length-set (omega (arith, has-room (c .before .before)))
+loop-less c = omega (arith, has-room (c .before .before))
 
 loop-again : tie.Need-loop-again Inv-loop μ-loop
 loop-again c =
     walk-on _ ((start-of-wide2 c) .args .tree .now) _ ((start-of-wide2 c) .args .path .now) ((start-of-wide2 c) .pre) _ _
     ((at-loop-of-wide2 c) .loop .path) ((at-loop-of-wide2 c) .loop .inv) ((c .before .before) .loop-test .taken) _
     (c .wide2 .ensures ∙ sym (entry-of ((start-of-wide2 c) .args .tree .now) _ (omega (arith, (c .before .before) .loop-test .taken))))
-
-same-length : tie.Need-same-length Inv-loop μ-loop
-same-length c = (c .before) .loop .inv .long
 
 returns : tie.Need-returns Inv-loop μ-loop
 returns c =
@@ -119,7 +114,7 @@ path-spec =
     loop-holds
     cast-path
     mul-path
-    slice-write-path
+    element-write-path
     add-count
     sub-wide-2
     mul-wide-2
@@ -127,5 +122,4 @@ path-spec =
     wide-requires-2
     loop-less
     loop-again
-    same-length
     returns)

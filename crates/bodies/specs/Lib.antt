@@ -1,0 +1,3 @@
+-- What the answers about a text say.
+-- Assumes nothing.
+pub mod Scanned

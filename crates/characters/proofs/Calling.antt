@@ -1,0 +1,150 @@
+-- From the checks to the passes: what a call knows once none of its checks applies.
+-- Assumes nothing.
+use mathlib.Core.Path.{_≡_, refl, sym, _∙_, subst}
+use mathlib.Core.List.{List, [], _∷_}
+use Prim.Native.Nat.{ℕ, _+_, _-_, _*_, _≤_, _<_}
+use native.Mathlib.Decide.{decLe}
+use native.Mathlib.Omega.{arith}
+use lib.ListN.{length}
+use Rattle.parsimony.specs.Table.{Accepted}
+use Rattle.parsimony.specs.Matrix.{stateOf}
+use Rattle.refusals.specs.declared.Refusal.{Refusal}
+use Rattle.refusals.specs.Search.{Never}
+use Rattle.refusals.specs.Checks.{Refuses, Passes, slices, Slice}
+use Rattle.parsimony.specs.Lists.{sum, from}
+use Rattle.parsimony.specs.Index as index
+use Rattle.parsimony.proofs.Matrices.{cell-in}
+use Rattle.cells.specs.Above.{AboveAt, AboveIn}
+use Rattle.indices.proofs.Most.{m-most}
+use Rattle.totals.specs.Totals.{Small, Given, HasLength}
+use Rattle.checks.specs.declared.Lent.{Lent}
+use Rattle.checks.specs.declared.Lent.the-variants.{Exact}
+use Rattle.checks.specs.declared.Admission.{Admission}
+use Rattle.checks.specs.declared.Admission.the-variants.{Admitted, Refused}
+use Rattle.checks.specs.Calls.{Outside, lentSlices, characterChecks, cellChecks, matrixChecks, Told, InLimits, CellsPass, AdmitsCharacter, AdmitsMatrix}
+use Rattle.checks.proofs.Lending.{exact-clear}
+use Rattle.checks.proofs.Orders.{admissible, rest-passes, character-passes, matrix-passes, character-inside, matrix-inside, sized}
+use Rattle.choices.specs.declared.Resolve.{Resolve}
+use Rattle.characters.specs.declared.Scores.{Scores}
+use Rattle.characters.specs.Afresh.{Results, AllLong, resultSlices, CharacterMeans, TreeScores, OneScored, AllScored}
+use Rattle.characters.specs.Steps.{HasScores, GivenOne}
+
+-- slices that are not refused are exact
+results-long : (n : ℕ) (r : Results) → Passes (slices 3 (resultSlices n r)) → AllLong n r
+results-long n r (a, (b, (d, (e, (f, (g, z)))))) =
+    record {
+      first-lows = exact-clear 3 (length (r .first-lows)) (n - 2) a;
+      first-highs = exact-clear 4 (length (r .first-highs)) (n - 2) b;
+      subtree = exact-clear 5 (length (r .subtree)) (n - 2) d;
+      final-lows = exact-clear 6 (length (r .final-lows)) (n - 2) e;
+      final-highs = exact-clear 7 (length (r .final-highs)) (n - 2) f;
+      states = exact-clear 8 (length (r .states)) (n - 2) g;
+    }
+
+-- a state that is not above 9999
+pub small : (n : ℕ) (matrix : List ℕ) (c j : ℕ) → Never (AboveIn matrix c j) n → (k : ℕ) → 1 ≤ k → k ≤ n → stateOf matrix c j k ≤ 9999
+small n matrix c j N k p q = go (decLe (stateOf matrix c j k) 9999)
+  where
+    go : Dec (stateOf matrix c j k ≤ 9999) → stateOf matrix c j k ≤ 9999
+    go (yes l) = l
+    go (no l) = absurd (N k p q (omega arith))
+
+module _ (n c j : ℕ) (tree matrix : List ℕ) (before : Results) (L : InLimits n c) (told : Lent)
+    (t : Told 1 (lentSlices n c tree matrix (resultSlices n before)) told) where
+  pub one-refused : (r : Refusal) → AdmitsCharacter n c j tree matrix told (Refused r)
+      → Refuses (characterChecks n c j tree matrix (resultSlices n before)) r
+  one-refused r h = character-inside n c tree matrix (resultSlices n before) j L r (h (lentSlices n c tree matrix (resultSlices n before)) t)
+
+  module _ (ρ δ : ℕ) (A : AdmitsCharacter n c j tree matrix told (Admitted ρ δ)) where
+    pub given-one : GivenOne n c j ρ δ tree matrix before
+    given-one =
+        record {
+          sized = sized n c tree matrix (resultSlices n before) L told t (A .0);
+          accepted = A .1;
+          some = A .2 .some;
+          most = A .2 .most;
+          rows = admissible n c tree matrix (resultSlices n before) L told t .exact (A .0) .1;
+          small = small n matrix c j (A .2 .small);
+          long = results-long n before (rest-passes n c tree matrix (resultSlices n before) L told t (A .0));
+        }
+
+    pub one-scored : (resolve : Resolve) (after : Results) (s : Scores) → CharacterMeans n (stateOf matrix c j) tree ρ resolve after s
+        → OneScored n c j resolve tree matrix before after s
+    one-scored resolve after s M =
+        record {
+          passes = character-passes n c tree matrix (resultSlices n before) L told t j (A .0) ρ δ (A .1) (A .2);
+          ρ = ρ;
+          δ = δ;
+          accepted = A .1;
+          means = M;
+        }
+
+-- ---- all characters
+
+-- a cell that is not above 9999
+all-small : (n : ℕ) (matrix : List ℕ) (c : ℕ) → Never (AboveAt matrix) (n * c) → Small n c matrix
+all-small n matrix c N j k a b p q = go (decLe (stateOf matrix c j k) 9999)
+  where
+    cell : (k - 1) * c + j ≤ n * c
+    cell = omega (arith, cell-in n c (k - 1) (j - 1) (omega arith) (omega arith))
+
+    go : Dec (stateOf matrix c j k ≤ 9999) → stateOf matrix c j k ≤ 9999
+    go (yes l) = l
+    go (no l) = absurd (N ((k - 1) * c + j) (omega arith) cell (omega arith))
+
+module _ (n c : ℕ) (tree matrix : List ℕ) (L : InLimits n c) (told : Lent) (t : Told 1 (lentSlices n c tree matrix []) told) where
+  pub all-refused : (r : Refusal) → AdmitsMatrix n c tree matrix told (Refused r) → Refuses (matrixChecks n c tree matrix []) r
+  all-refused r h = matrix-inside n c tree matrix [] L r (h (lentSlices n c tree matrix []) t)
+
+  module _ (ρ δ : ℕ) (A : AdmitsMatrix n c tree matrix told (Admitted ρ δ)) where
+    pub given-all : Given n c ρ δ tree matrix
+    given-all =
+        record {
+          sized = sized n c tree matrix [] L told t (A .0);
+          accepted = A .1;
+          cells =
+              record {
+                least = omega (arith, L .least);
+                most = L .most;
+                few = L .few;
+                rows = admissible n c tree matrix [] L told t .exact (A .0) .1;
+                small = all-small n matrix c (A .2);
+              };
+        }
+
+    pub all-scored : (s : Scores) → TreeScores n c matrix tree ρ s → AllScored n c tree matrix s
+    all-scored s M =
+        record {
+          passes = matrix-passes n c tree matrix [] L told t (A .0) ρ δ (A .1) (A .2);
+          ρ = ρ;
+          δ = δ;
+          accepted = A .1;
+          means = M;
+        }
+
+-- the scores of the tree, from the three sums
+pub tree-scores : (n c ρ : ℕ) (tree matrix : List ℕ) (l a b : ℕ) → HasLength n c tree matrix l
+    → a ≡ sum (λ j. index.m n (stateOf matrix c j)) (from 1 c) → b ≡ sum (λ j. index.g n (stateOf matrix c j) ρ) (from 1 c)
+    → (s : Scores) → HasScores l a b s → TreeScores n c matrix tree ρ s
+tree-scores n c ρ tree matrix l a b H ea eb s S =
+    record {
+      lengths = H .lengths;
+      least = H .least;
+      total = S .length ∙ H .total;
+      m = S .m ∙ ea;
+      g = S .g ∙ eb;
+      indices = S .indices;
+    }
+
+-- no sum of m's is above that of the g's
+pub sums-ordered : (n c ρ : ℕ) (matrix : List ℕ)
+    → sum (λ j. index.m n (stateOf matrix c j)) (from 1 c) ≤ sum (λ j. index.g n (stateOf matrix c j) ρ) (from 1 c)
+sums-ordered n c ρ matrix = go (from 1 c)
+  where
+    go : (js : List ℕ) → sum (λ j. index.m n (stateOf matrix c j)) js ≤ sum (λ j. index.g n (stateOf matrix c j) ρ) js
+    go [] = omega arith
+    go (j ∷ js) = omega (arith, m-most n (stateOf matrix c j) ρ, go js)
+
+-- the same root and descendant, under other names
+pub wider : (n c ρ δ ρ′ δ′ : ℕ) (tree matrix : List ℕ) → ρ′ ≡ ρ → δ′ ≡ δ → Given n c ρ δ tree matrix → Given n c ρ′ δ′ tree matrix
+wider n c ρ δ ρ′ δ′ tree matrix e d G = rw e (rw d G)

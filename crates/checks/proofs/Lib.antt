@@ -1,0 +1,5 @@
+-- What the checks tell, one after the other.
+-- Assumes nothing.
+pub mod Lending
+pub mod Admitting
+pub mod Orders

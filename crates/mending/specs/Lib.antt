@@ -1,0 +1,3 @@
+-- What a correction does to the entries of its character.
+-- Assumes nothing.
+pub mod Mending

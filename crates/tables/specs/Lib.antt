@@ -1,0 +1,3 @@
+-- The layout of a kept table, and what it means.
+-- Assumes nothing.
+pub mod Tables

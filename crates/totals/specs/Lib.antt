@@ -1,0 +1,3 @@
+-- Sums over all characters.
+-- Assumes nothing.
+pub mod Totals
