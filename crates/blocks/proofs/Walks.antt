@@ -17,7 +17,7 @@ use Rattle.parsimony.specs.Matrix.{stateOf}
 use Rattle.parsimony.proofs.Sums.{All, all-map, same-self, same-equal, same-apart}
 use Rattle.parsimony.proofs.Tables.Trees.{Tree}
 use Rattle.parsimony.proofs.Tables.Mending.{Alike, stays-settled}
-use Rattle.parsimony.proofs.Ranges.Joins.{join-two, cost-two}
+use Rattle.parsimony.proofs.Ranges.Joins.{join-high, cost-high}
 use Rattle.shapes.specs.Shape.{under, inside, Filled}
 use Rattle.shapes.proofs.Subtrees as subtrees
 use Rattle.blocks.specs.Blocks.{rangeAt, Same, Room, Fits, Settleable, SettledRow, Walks, WalkedIn}
@@ -36,15 +36,6 @@ fork-of n tree left right v a b F lo hi p q =
   where
     place : v - suc n ≡ v - n - 1
     place = omega arith
-
--- a join goes no higher than its ranges, and costs no more than they reach
-join-high : (a b c d q r h : ℕ) → a ≤ b → b ≤ h → c ≤ d → d ≤ h → span q r ≡ ordered.join (span a b ∷ span c d ∷ []) → q ≤ r → r ≤ h
-join-high a b c d q r h f g f′ g′ e fits =
-    let top : max q r ≡ _ = ap (λ (x : ordered.Range). x .high) (e ∙ join-two (span a b) (span c d)) in
-    omega arith
-
-pub cost-high : (a b c d h : ℕ) → a ≤ b → b ≤ h → c ≤ d → d ≤ h → ordered.cost (span a b ∷ span c d ∷ []) ≤ h
-cost-high a b c d h f g f′ g′ = omega (arith, cost-two (span a b) (span c d))
 
 module _ (node n w : ℕ) (tree : List ℕ) (ρ δ : ℕ) (left right lows highs lengths : List ℕ)
     (W : Walks node n w tree ρ δ left right lows highs lengths) where
@@ -275,12 +266,12 @@ module _ (node n w : ℕ) (tree : List ℕ) (ρ δ : ℕ) (left right lows highs
                   let (f, g, s) = first-fits i p q in
                   let (f′, g′, s′) = second-fits i p q in (
                     R .fits i p q,
-                    join-high (stateOf lows₂ w i a) (stateOf highs₂ w i a) (stateOf lows₂ w i b) (stateOf highs₂ w i b) _ _ 9999 f g f′ g′
-                        (R .joined i p q) (R .fits i p q),
+                    join-high (rangeAt lows₂ highs₂ w i a) (rangeAt lows₂ highs₂ w i b) _ _ 9999 (omega arith) (omega arith) (R .joined i p q)
+                        (R .fits i p q),
                     omega (
                       arith,
                       R .summed i p q,
-                      cost-high (stateOf lows₂ w i a) (stateOf highs₂ w i a) (stateOf lows₂ w i b) (stateOf highs₂ w i b) 9999 f g f′ g′,
+                      cost-high (rangeAt lows₂ highs₂ w i a) (rangeAt lows₂ highs₂ w i b) 9999 (omega arith) (omega arith),
                       subtrees.inside-fork T node a b lo hi D,
                     ),
                   )

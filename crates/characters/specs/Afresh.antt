@@ -61,6 +61,7 @@ pub record Results : Type 0 where
 abbrev pub six : (n a b d e f g : ℕ) → List Slice
 six n a b d e f g = nodeSlice n a ∷ nodeSlice n b ∷ nodeSlice n d ∷ nodeSlice n e ∷ nodeSlice n f ∷ nodeSlice n g ∷ []
 
+-- and those of six lists
 abbrev pub resultSlices : ℕ → Results → List Slice
 resultSlices n r =
     six n (length (r .first-lows)) (length (r .first-highs)) (length (r .subtree)) (length (r .final-lows)) (length (r .final-highs))
@@ -106,6 +107,7 @@ OneAnswers n c j resolve tree matrix before after (answer.Refused q) =
 
 -- ---- all characters afresh
 
+-- no check applies, and the scores are the tree's
 pub record AllScored (n c : ℕ) (tree matrix : List ℕ) (s : Scores) : Type 0 where
   pub passes : Passes (matrixChecks n c tree matrix [])
   pub ρ : ℕ
@@ -113,6 +115,7 @@ pub record AllScored (n c : ℕ) (tree matrix : List ℕ) (s : Scores) : Type 0 
   pub accepted : Accepted n tree ρ δ
   pub means : TreeScores n c matrix tree ρ s
 
+-- The answer: the scores; or a refusal, by the first check that applies. Both slices are lent to be read only.
 abbrev pub AllAnswers : (n c : ℕ) (tree matrix : List ℕ) → Answer → Type 0
 AllAnswers n c tree matrix (answer.Scores s) = AllScored n c tree matrix s
 AllAnswers n c tree matrix (answer.Refused q) = Refuses (matrixChecks n c tree matrix []) q

@@ -2,9 +2,8 @@
 -- Assumes nothing.
 use mathlib.Core.Path.{_≡_}
 use mathlib.Core.List.{List}
-use Prim.Native.Nat.{ℕ, _+_, _-_, _*_, _≤_, _<_, min}
+use Prim.Native.Nat.{ℕ, _-_, _*_, _≤_, _<_}
 use lib.ListN.{length}
-use Rattle.parsimony.specs.Lists.{sum, from}
 use Rattle.parsimony.specs.Table.{Accepted}
 use Rattle.parsimony.specs.Ordered.{ordered}
 use Rattle.parsimony.specs.Meaning.{LengthMeans}
@@ -13,7 +12,6 @@ use Rattle.parsimony.specs.Matrix.{stateOf}
 use Rattle.parsimony.specs.Character.{atNode, cells, ranges, sizes}
 use Rattle.trees.specs.Answers.{Sized}
 use Rattle.shapes.specs.Filling.{Orders}
-use Rattle.descents.specs.Descents.{Descends, Chooses}
 use Rattle.choices.specs.declared.Resolve.{Resolve}
 use Rattle.choices.specs.declared.Resolve.the-variants.{Acctran, Deltran}
 use Rattle.characters.specs.declared.Scores.{Scores}
@@ -46,6 +44,7 @@ pub record BegunIn (n c j : ℕ) (tree matrix lows highs lengths : List ℕ) (l 
   pub pass : FirstPass ordered n (cells n (stateOf matrix c j)) tree (ranges n (stateOf matrix c j) lows highs) (sizes n (stateOf matrix c j) lengths)
   pub least : LengthMeans ordered n (cells n (stateOf matrix c j)) tree l
 
+-- in any accepted table of this shape
 abbrev pub Begun : (n c j ρ δ : ℕ) (left right matrix lows highs lengths : List ℕ) (l : ℕ) → Type 0
 Begun n c j ρ δ left right matrix lows highs lengths l =
     (tree : List ℕ) → Orders n δ tree ρ left right → BegunIn n c j tree matrix lows highs lengths l

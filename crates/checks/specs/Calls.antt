@@ -92,10 +92,12 @@ pub record CellsPass (n c j : ℕ) (matrix : List ℕ) : Type 0 where
   pub most : j ≤ c
   pub small : Never (AboveIn matrix c j) n
 
+-- after the tree: the cells pass, and the root and its descendant are handed on; or 8 or 7 applies
 abbrev pub AdmitsCells : (n c j ρ δ : ℕ) (matrix : List ℕ) → Admission → Type 0
 AdmitsCells n c j ρ δ matrix (Admitted ρ′ δ′) = (ρ′ ≡ ρ) × (δ′ ≡ δ) × CellsPass n c j matrix
 AdmitsCells n c j ρ δ matrix (Refused r) = Refuses (cellChecks n c j matrix) r
 
+-- the same for all cells: or 7 applies
 abbrev pub AdmitsAll : (n c ρ δ : ℕ) (matrix : List ℕ) → Admission → Type 0
 AdmitsAll n c ρ δ matrix (Admitted ρ′ δ′) = (ρ′ ≡ ρ) × (δ′ ≡ δ) × Never (AboveAt matrix) (n * c)
 AdmitsAll n c ρ δ matrix (Refused r) = Refuses (allChecks n c matrix) r

@@ -1,5 +1,4 @@
--- A path, settled from the taxon up. Its nodes are those of the climb from the taxon, each less deep than the one before it; so no node of it is
--- written twice, and what was settled before it stays settled.
+-- A path, settled from the taxon up. No node of it is written twice (Climbs.antt), so what was settled before stays settled.
 -- Assumes nothing.
 use mathlib.Core.Path.{_≡_, refl, sym, _∙_, ap, ap₂, subst}
 use mathlib.Core.Logic.{_≢_, _⊎_, inl, inr}
@@ -21,39 +20,14 @@ use Rattle.parsimony.proofs.Tables.Descendants.{each-descends, often-descendant
 use Rattle.parsimony.proofs.Tables.Climbing.{climb-more}
 use Rattle.parsimony.proofs.Tables.Mending.{Alike, stays-settled}
 use Rattle.parsimony.proofs.Tables.Trees.{Tree, steps-below}
-use Rattle.parsimony.proofs.Ranges.Joins.{join-two, cost-two}
+use Rattle.parsimony.proofs.Ranges.Joins.{join-high, cost-high}
 use Rattle.shapes.specs.Shape.{Filled, pathOf}
 use Rattle.shapes.proofs.Paths.{path-short, path-at, path-all}
 use Rattle.shapes.proofs.Subtrees as subtrees
 use Rattle.descents.specs.Descents.{Readable}
+use Rattle.mending.proofs.Climbs as climbs
+use Rattle.mending.proofs.Turns.{MendedTo}
 use Rattle.mending.specs.Mending.{Sound, SameAt, Mended, MendsNode, MendedNode, MendsPath}
-
--- ---- a join of two ranges goes no higher than they do, and costs no more than they reach
-
-joined-high : (x y : ordered.Range) (low high : ℕ) → x .high ≤ 9999 → y .high ≤ 9999 → span low high ≡ ordered.join (x ∷ y ∷ []) → low ≤ high
-    → high ≤ 9999
-joined-high x y low high p q e fits =
-    let top : max low high ≡ _ = ap (λ (r : ordered.Range). r .high) (e ∙ join-two x y) in
-    omega (arith, x .fits, y .fits)
-
-costed-high : (x y : ordered.Range) → x .high ≤ 9999 → y .high ≤ 9999 → ordered.cost (x ∷ y ∷ []) ≤ 9999
-costed-high x y p q = omega (arith, cost-two x y, x .fits, y .fits)
-
--- ---- after i nodes of the path
-
-module _ (n c j t count : ℕ) (tree matrix lows₀ highs₀ lengths₀ : List ℕ) where
-  pub record MendedTo (i : ℕ) (lows highs lengths : List ℕ) : Type 0 where
-    pub turns : i ≤ count
-    pub low-long : length lows ≡ n - 2
-    pub high-long : length highs ≡ n - 2
-    pub length-long : length lengths ≡ n - 2
-    pub others : (u : ℕ) → n < u → u ≤ length tree → ((h : ℕ) → h < i → climb tree (suc h) t ≢ u)
-        → SameAt n lows₀ highs₀ lengths₀ lows highs lengths u
-    pub settled : (h : ℕ) → h < i → Settled ordered tree (ranges n (stateOf matrix c j) lows highs) (sizes n (stateOf matrix c j) lengths)
-        (climb tree (suc h) t)
-    pub fits : (h : ℕ) → h < i → atNode n lows (climb tree (suc h) t) ≤ atNode n highs (climb tree (suc h) t)
-    pub small : (h : ℕ) → h < i → atNode n highs (climb tree (suc h) t) ≤ 9999
-    pub short : (h : ℕ) → h < i → atNode n lengths (climb tree (suc h) t) ≤ suc h * 5099490
 
 module _ (n c j t count : ℕ) (tree matrix left right path lows₀ highs₀ lengths₀ : List ℕ)
     (M : MendsPath n c j t count tree matrix left right path lows₀ highs₀ lengths₀) where
@@ -68,53 +42,22 @@ module _ (n c j t count : ℕ) (tree matrix left right path lows₀ highs₀ len
   step i = climb tree (suc i) t
 
   step-inner : (i : ℕ) → i < count → n < step i
-  step-inner i l = path-at T t i (omega (arith, M .counts)) .1
+  step-inner = climbs.step-inner T t count (M .counts)
 
   step-last : (i : ℕ) → step i ≤ length tree
-  step-last i = subst (λ v. v ≤ length tree) (sym (climb-more tree i t)) (M .accepted .is-tree .within (climb tree i t))
+  step-last = climbs.step-last T t count (M .counts)
 
-  step-up : (i : ℕ) → ancestor tree (step i) ≡ step (suc i)
-  step-up i = sym (climb-more tree (suc i) t)
-
-  pub step-is : (i : ℕ) → i < count → getD path i 0 ≡ step i
-  step-is i l = M .lists i l ∙ path-at T t i (omega (arith, M .counts)) .0
-
-  -- each is less deep than the one before it
   deep-step : (i : ℕ) → i < count → deep tree (length tree) (step i) + suc i ≡ deep tree (length tree) t
-  deep-step zero l =
-      omega (arith, subtrees.deep-below T t (M .taxon .0))
-  deep-step (suc i) l =
-      omega (
-        arith,
-        deep-step i (omega arith),
-        subtrees.deep-below T (step i) (omega (arith, step-inner i (omega arith))),
-        ap (deep tree (length tree)) (step-up i),
-      )
+  deep-step = climbs.deep-step T t count (M .counts) (M .taxon .0)
 
   steps-apart : (h i : ℕ) → h < i → i < count → step h ≢ step i
-  steps-apart h i l m e = omega (arith, deep-step h (omega arith), deep-step i m, ap (deep tree (length tree)) e)
+  steps-apart = climbs.steps-apart T t count (M .counts) (M .taxon .0)
 
-  -- a descendant of a node of the path that is not the one before it is off the path
   off-path : (i d : ℕ) → i < count → ancestor tree d ≡ step i → n < d → d ≢ climb tree i t → below tree d t ≡ 0
-  off-path i d l e lo ne = go (decLe 1 (below tree d t))
-    where
-      go : Dec (1 ≤ below tree d t) → below tree d t ≡ 0
-      go (no p) = omega arith
-      go (yes p) =
-          let (h, m, q) = path-all T t d lo p in
-          let m′ : h < count = omega (arith, M .counts) in
-          absurd (ne (sym q ∙ ap (λ k. climb tree k t) (level h m′ q)))
-        where
-          level : (h : ℕ) → h < count → step h ≡ d → suc h ≡ i
-          level h m q =
-              omega (
-                arith,
-                deep-step h m,
-                deep-step i l,
-                subtrees.deep-below T d (omega arith),
-                ap (deep tree (length tree)) q,
-                ap (deep tree (length tree)) e,
-              )
+  off-path = climbs.off-path T t count (M .counts) (M .taxon .0)
+
+  step-is : (i : ℕ) → i < count → getD path i 0 ≡ step i
+  step-is i l = M .lists i l ∙ path-at T t i (omega (arith, M .counts)) .0
 
   -- ---- the path
 
@@ -399,7 +342,7 @@ module _ (n c j t count : ℕ) (tree matrix left right path lows₀ highs₀ len
 
       range-high : W .range .high ≤ 9999
       range-high =
-          joined-high (ranges n state lows highs a) (ranges n state lows highs b) (W .range .low) (W .range .high) (known .first-small)
+          join-high (ranges n state lows highs a) (ranges n state lows highs b) (W .range .low) (W .range .high) 9999 (known .first-small)
           (known .second-small) (W .joined .joins) (W .joined .fits)
 
       new-short : new ≤ suc i * 5099490
@@ -407,7 +350,7 @@ module _ (n c j t count : ℕ) (tree matrix left right path lows₀ highs₀ len
           omega (
             arith,
             known .sum-short,
-            costed-high (ranges n state lows highs a) (ranges n state lows highs b) (known .first-small) (known .second-small),
+            cost-high (ranges n state lows highs a) (ranges n state lows highs b) 9999 (known .first-small) (known .second-small),
           )
 
       mended-more : MendedBy (i + 1) lows′ highs′ lengths′

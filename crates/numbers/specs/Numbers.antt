@@ -27,6 +27,7 @@ numberFrom i (b ∷ bs) =
     cond (ltb 9 (digitOf b)) Bad
     (cond (eqb (digitOf b) 0) (Value 0 (i + 1)) (digitsFrom (digitOf b) (i + 1) bs))
 
+-- a number at a position
 abbrev pub numberAt : List ℕ → ℕ → Parsed
 numberAt text i = numberFrom i (drop i text)
 
@@ -35,6 +36,7 @@ unfoldable pub ended : List ℕ → ℕ → Parsed → Parsed
 ended text end Bad = Bad
 ended text end (Value v next) = cond (eqb (getD text next 0) end) (Value v (next + 1)) Bad
 
+-- a number at a position, with the byte `end` after it
 abbrev pub itemAt : List ℕ → ℕ → ℕ → Parsed
 itemAt text end i = ended text end (numberAt text i)
 

@@ -10,6 +10,7 @@ unfoldable pub decimalOf : ℕ → ℕ → List ℕ
 decimalOf zero n = (48 + n) ∷ []
 decimalOf (suc most) n = cond (ltb n 10) ((48 + n) ∷ []) (decimalOf most (n / 10) ++ ((48 + n % 10) ∷ []))
 
+-- a number in decimal: n has no more than n + 1 digits
 abbrev pub decimal : ℕ → List ℕ
 decimal n = decimalOf n n
 

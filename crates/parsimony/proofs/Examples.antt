@@ -3,13 +3,17 @@
 --     Checking    a test of an example that is computed, and that the claim holds where it passes
 -- P10 and P11, two corrections, join the list with the kept table.
 -- Assumes nothing.
+use mathlib.Core.Path.{_≡_, refl}
 use mathlib.Core.List.{List, [], _∷_}
-use Prim.Native.Nat.{ℕ}
+use Prim.Native.Nat.{ℕ, _-_}
 use native.Mathlib.Decide.{ℕ-discrete, decLe}
 use lib.Dec.{T}
+use lib.ListN.{getD}
 use Rattle.parsimony.specs.Lists.{without}
 use Rattle.parsimony.specs.Table.{having}
-use Rattle.parsimony.specs.Ordered.{insert, sorted}
+use Rattle.parsimony.specs.Ordered.{insert, sorted, ordered}
+use Rattle.parsimony.specs.Way.{lengthOf}
+use Rattle.parsimony.specs.Character.{wayOf}
 use Rattle.parsimony.specs.Index.{fraction, none}
 pub mod Claims
 mod Checking
@@ -127,3 +131,8 @@ examples =
 pub examples-hold : AllHold examples
 unfolding examples handout-1 handout-2 alike figure-4 insert sorted having without aboveBy sameIndex ℕ-discrete decLe
 examples-hold = all-hold examples tt
+
+-- "The choice 1,3 has length 9": on the handout's first character, a state of each final range taken by itself. The least length is 7.
+pub choice-1-3 : lengthOf ordered (0 ∷ 5 ∷ 6 ∷ 6 ∷ 1 ∷ 5 ∷ []) (wayOf 4 (λ k. getD (0 ∷ 3 ∷ 1 ∷ 5 ∷ []) (k - 1) 0) (1 ∷ 3 ∷ [])) ≡ 9
+unfolding decLe
+choice-1-3 = refl

@@ -18,6 +18,7 @@ use Rattle.parsimony.specs.Meaning.{LengthMeans}
 use Rattle.parsimony.proofs.Sums.{All, all-map}
 use Rattle.parsimony.proofs.Characters.{span-point, range-taxon, range-inner, size-taxon, size-inner, Settles, settles}
 use Rattle.parsimony.proofs.Tables.Descendants.{each-descends}
+use Rattle.parsimony.proofs.Ranges.Joins.{cost-high}
 use Rattle.parsimony.proofs.Ranges.Laws.{ordered-laws}
 use Rattle.parsimony.proofs.Tables.First.{length-means}
 use Rattle.parsimony.proofs.Tables.Whole.{δ-inner}
@@ -27,7 +28,6 @@ use Rattle.shapes.specs.Shape.{inside}
 use Rattle.shapes.specs.Filling.{Orders}
 use Rattle.shapes.proofs.Subtrees as subtrees
 use Rattle.blocks.specs.Blocks.{rangeAt, Fits, Walks, Walkable, WalkedIn}
-use Rattle.blocks.proofs.Walks.{cost-high}
 use Rattle.passes.specs.Passes.{HasState, Loaded, Passable, PassedIn, Taken, Ends, lengthAt}
 
 module _ (n c a w δ : ℕ) (tree : List ℕ) (ρ : ℕ) (left right matrix : List ℕ) (O : Orders n δ tree ρ left right) where
@@ -164,6 +164,5 @@ module _ (n c a w δ : ℕ) (tree : List ℕ) (ρ : ℕ) (left right matrix : Li
         omega (
           arith,
           below-small,
-          cost-high (stateOf lows w i ρ) (stateOf highs w i ρ) (stateOf lows w i δ) (stateOf highs w i δ) 9999
-              (omega arith) (omega arith) (top-fits .0) (top-fits .1),
+          cost-high (rangeAt lows highs w i ρ) (rangeAt lows highs w i δ) 9999 (omega arith) (omega (arith, top-fits .0, top-fits .1)),
         )

@@ -2,9 +2,11 @@
 --     Listing     the two descendants of each interior node
 --     Paths       the path from a node to the root
 --     Subtrees    the subtree of a node
---     Queues      the order of the interior nodes
+--     Queues      the order of the interior nodes, as a queue
+--     Turns       the list that holds the queue
 -- Assumes nothing.
 mod Listing
 pub mod Paths
 pub mod Subtrees
 mod Queues
+mod Turns

@@ -51,10 +51,11 @@ pub record IsPath (n : ℕ) (tree : List ℕ) (k : ℕ) (before after : List ℕ
 
 -- ---- an order of the interior nodes
 
--- a list with one more node at the place k, and the next place; nothing changes for a taxon
+-- a list with one more node at the place k; nothing changes for a taxon
 abbrev pub putAt : (n a k : ℕ) → List ℕ → List ℕ
 putAt n a k order = choose (decLe a n) order (set order k a)
 
+-- and the next place
 abbrev pub placeAfter : (n a k : ℕ) → ℕ
 placeAfter n a k = choose (decLe a n) k (k + 1)
 
@@ -64,6 +65,7 @@ pub record Orders (n δ : ℕ) (tree : List ℕ) (ρ : ℕ) (left right : List �
   pub accepted : Accepted n tree ρ δ
   pub shape : Filled n tree left right
 
+-- there is such a table, and the list has room for the most interior nodes there can be
 pub record Orderable (n δ : ℕ) (left right order : List ℕ) : Type 0 where
   pub tree : List ℕ
   pub ρ : ℕ

@@ -16,7 +16,8 @@ fn first_of(old: u16, node: u16) -> u16
 // Notes a descendant of a node, where the node is interior: the first that is noted is its left one, the last its right one.
 fn note(n: usize, ancestor: usize, node: u16, left: &mut [u16; 254], right: &mut [u16; 254])
     requires { ⌜ (n < 257) × (ancestor ≤ n + 254) ⌝ }
-    ensures { λ _. ⌜ (now (left .exit) ≡ leftWith n ancestor node (now (left .entry))) × (now (right .exit) ≡ rightWith n ancestor node (now (right .entry))) ⌝ }
+    ensures { λ _. ⌜ (now (left .exit) ≡ leftWith n ancestor node (now (left .entry)))
+        × (now (right .exit) ≡ rightWith n ancestor node (now (right .entry))) ⌝ }
 {
     if n < ancestor {
         let at = ancestor - n - 1;

@@ -48,6 +48,7 @@ pub record GivenBlocks (n c ρ δ : ℕ) (left right matrix lows highs lengths :
   pub cells : Cells n c matrix
   pub room : Room lows highs lengths
 
+-- in any accepted table of this shape
 abbrev pub LengthIn : (n c ρ δ : ℕ) (left right matrix : List ℕ) (l : ℕ) → Type 0
 LengthIn n c ρ δ left right matrix l = (tree : List ℕ) → Orders n δ tree ρ left right → HasLength n c tree matrix l
 

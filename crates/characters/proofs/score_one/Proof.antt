@@ -66,8 +66,7 @@ wide2-of-final-ranges-arg4 c =
     wide2-of-begin (c .before .before .before .before .before .before .before .before .before .before .before .before .before)
 
 abbrev order2-of-final-ranges-arg4 : tie.After-final-ranges-arg4 → tie.After-order2
-order2-of-final-ranges-arg4 c =
-    c .before .before .before .before .before .before .before .before .before .before .before .before .before .before .before .before .before .before .before .before .before
+order2-of-final-ranges-arg4 c = (wide2-of-final-ranges-arg4 c) .before .before
 
 abbrev start-of-begin-arg3 : tie.After-begin-arg3 → tie.Start
 start-of-begin-arg3 c = start-of-wide2 (c .before .before .before .before .before)
@@ -105,8 +104,7 @@ start-of-final-ranges-arg4 c =
     start-of-begin (c .before .before .before .before .before .before .before .before .before .before .before .before .before)
 
 abbrev wide-of-g : tie.After-g → tie.After-wide
-wide-of-g c =
-    c .before .before .before .before .before .before .before .before .before .before .before .before .before .before .before .before .before .before .before .before .before .before .before .before .before .before .before .before .before .before .before .before .before .before .before .before .before
+wide-of-g c = (wide2-of-long (c .before)) .before
 
 abbrev wide2-of-score : tie.After-score → tie.After-wide2
 wide2-of-score c = wide2-of-long (c .before .before)

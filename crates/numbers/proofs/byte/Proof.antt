@@ -1,3 +1,5 @@
+-- `byte` reads one byte; past the end it is 0.
+-- Assumes nothing.
 use borrow.Author.Needs.{needs}
 use mathlib.Core.Path.{sym}
 use lib.ListN.{List·getD-eq-default}

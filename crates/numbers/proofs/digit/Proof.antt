@@ -1,3 +1,5 @@
+-- `digit` tells the value of a byte, by its three cases.
+-- Assumes nothing.
 use borrow.Author.Needs.{needs}
 use borrow.Author.Tests.{lt-ltb, le-ltb}
 use Rattle.numbers.specs.Numbers.{digitOf}

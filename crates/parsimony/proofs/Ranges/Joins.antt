@@ -12,7 +12,7 @@ use mathlib.Core.Bool.{Bool}
 use lib.Dec.{T, eqb, eqb→eq}
 use lib.IntN.{ℤ, pos}
 use Rattle.parsimony.specs.Kind.{In}
-use Rattle.parsimony.specs.Ordered.{Range, point, Between, insert, sorted, join, cost, ordered}
+use Rattle.parsimony.specs.Ordered.{Range, span, point, Between, insert, sorted, join, cost, ordered}
 use Rattle.parsimony.specs.Lists.{from}
 use Rattle.parsimony.proofs.Tests.{every, every-at}
 use Rattle.parsimony.proofs.Ranges.Distances.{range-same, pos-same, in-range}
@@ -35,6 +35,16 @@ join-two r q = join-innermost r (q ∷ [])
 pub cost-two : (r q : Range) → cost2 r q ≡ gap q r
 unfolding taken chain link gaps
 cost-two r q = cost-taken r (q ∷ []) ∙ omega arith
+
+-- a join of two ranges goes no higher than they do
+pub join-high : (r q : Range) (low high h : ℕ) → r .high ≤ h → q .high ≤ h → span low high ≡ join2 r q → low ≤ high → high ≤ h
+join-high r q low high h a b e fits =
+    let top : max low high ≡ _ = ap (λ (x : Range). x .high) (e ∙ join-two r q) in
+    omega (arith, r .fits, q .fits)
+
+-- and costs no more than they reach
+pub cost-high : (r q : Range) (h : ℕ) → r .high ≤ h → q .high ≤ h → cost2 r q ≤ h
+cost-high r q h a b = omega (arith, cost-two r q, r .fits, q .fits)
 
 -- what document 01 says of a join and its cost: the overlap where the ranges meet; else the gap from the nearer end to the nearer end
 pub record OverlapOrGap (r q j : Range) (c : ℕ) : Type 0 where

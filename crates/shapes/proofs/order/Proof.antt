@@ -7,7 +7,7 @@ use mathlib.Core.Path.{_≡_, refl, sym, _∙_, ap, subst}
 use Prim.Native.Nat.{ℕ, _-_, _≤_, _<_}
 use lib.ListN.{length, getD}
 use Rattle.shapes.specs.Filling.{placeAfter}
-use Rattle.shapes.proofs.Queues.{Turning, turning-begins, turned-on, turning-ends, node-inner, first-room, first-long, second-room}
+use Rattle.shapes.proofs.Turns.{Turning, turning-begins, turned-on, turning-ends, node-inner, first-room, first-long, second-room}
 use Rattle.shapes.proofs.order.Statement.{statement}
 use Rattle.shapes.proofs.order.Tie as tie
 
