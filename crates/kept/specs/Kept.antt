@@ -6,10 +6,9 @@ use mathlib.Core.List.{List, [], _∷_, _++_}
 use Prim.Native.Nat.{ℕ, _-_, _*_, _≤_, _<_}
 use lib.ListN.{length}
 use Rattle.parsimony.specs.Lists.{sum, from}
-use Rattle.parsimony.specs.Table.{Accepted}
+use Rattle.parsimony.specs.Table.{between, Accepted}
 use Rattle.refusals.specs.Checks.{Check, at, Refuses, Passes, Slice, slices}
 use Rattle.trees.specs.Answers.{treeFaults}
-use Rattle.shapes.specs.Shape.{between}
 use Rattle.checks.specs.Calls.{Outside, NoCharacter, characterCell, nodeSlice, lentSlices, characterChecks, matrixChecks}
 use Rattle.tables.specs.Tables.{stretch, TableLong, TableMeans}
 use Rattle.entries.specs.Entries.{characterEntries, allEntries}
