@@ -36,6 +36,7 @@ abbrev pub three : (n c a b d : ℕ) → List Slice
 three n c a b d =
     record { has = a; asked = (n - 2) * c } ∷ record { has = b; asked = (n - 2) * c } ∷ record { has = d; asked = (n - 2) * c } ∷ []
 
+-- and those of a table
 abbrev pub tableSlices : (n c : ℕ) → Table → List Slice
 tableSlices n c T = three n c (length (T .lows)) (length (T .highs)) (length (T .lengths))
 
