@@ -1,6 +1,6 @@
 //! Groups of cases. Each is made from a seed alone, so that the seed is all one needs to run it again.
 use crate::case::{Buffers, Call, Case, Memory};
-use crate::inputs;
+use crate::inputs::{self, FAULTS, Fault};
 use crate::random::Random;
 use independent::ways;
 use std::collections::BTreeMap;
@@ -54,7 +54,7 @@ pub fn compare(case: &Case, memory: Memory, tally: &mut Tally) -> Result<(u64, B
 pub enum Group {
     /// Good trees and matrices, all six calls about them.
     Good,
-    /// Up to four faults in a case: the first that applies is given.
+    /// One fault or several in a case: the first that applies is given.
     Damaged,
     /// Tables that nobody built, with and without refusal 10.
     Foreign,
@@ -107,8 +107,21 @@ fn damaged(random: &mut Random, memory: Memory, tally: &mut Tally) -> Result<(),
     let (n, c) = inputs::sizes(random);
     let kind = random.below(6);
     let mut case = inputs::good(random, kind, n, c);
-    for _ in 0..random.pick(&[1, 1, 1, 2, 3, 4]) {
-        inputs::damage(random, &mut case);
+    if random.one_in(2) {
+        let fault = random.pick(&FAULTS);
+        inputs::damage(random, fault, &mut case);
+    } else {
+        // several at once: those that are looked for first are rarer, so that each pair comes in both orders
+        for fault in FAULTS {
+            let rarely = match fault {
+                Fault::Size | Fault::Length => 12,
+                Fault::Tree => 6,
+                _ => 3,
+            };
+            if random.one_in(rarely) {
+                inputs::damage(random, fault, &mut case);
+            }
+        }
     }
     compare(&case, memory, tally).map(|_| ())
 }
@@ -119,7 +132,8 @@ fn foreign(random: &mut Random, memory: Memory, tally: &mut Tally) -> Result<(),
     let mut case = inputs::good(random, kind, n, c);
     inputs::foreign(random, &mut case.lent);
     if random.one_in(3) {
-        inputs::damage(random, &mut case);
+        let fault = random.pick(&[Fault::State, Fault::Entry, Fault::Entry, Fault::NewState, Fault::Tree]);
+        inputs::damage(random, fault, &mut case);
     }
     let (_, after) = compare(&case, memory, tally)?;
     // corrections one after another, each on what the last has left

@@ -238,7 +238,9 @@ pub fn damage_tree(random: &mut Random, n: usize, table: &mut [u16]) {
     let nodes = table.len();
     let any = random.below(nodes);
     let root = table.iter().position(|&ancestor| ancestor == 0).unwrap_or(0);
-    match random.below(8) {
+    match random.below(9) {
+        // the root is another node, as an interior one
+        8 => table.swap(root, any),
         // no root, or another one
         0 => table[root] = random.between(0, nodes + 1) as u16,
         // two roots
@@ -272,80 +274,90 @@ pub fn damage_tree(random: &mut Random, n: usize, table: &mut [u16]) {
     }
 }
 
-fn damage_state(random: &mut Random, matrix: &mut [u16]) {
+/// States above 9999: of one character, if one is given, or of any.
+fn damage_state(random: &mut Random, c: usize, character: Option<usize>, matrix: &mut [u16]) {
     for _ in 0..random.pick(&[1, 1, 2, 5]) {
-        if !matrix.is_empty() {
-            let at = random.below(matrix.len());
-            matrix[at] = random.pick(&[10_000, 10_001, 16_384, 32_768, 65_535]);
+        let at = match character {
+            Some(character) => random.below(matrix.len() / c + 1) * c + character - 1,
+            None => random.below(matrix.len() + 1),
+        };
+        if let Some(state) = matrix.get_mut(at) {
+            *state = random.pick(&[10_000, 10_001, 16_384, 32_768, 65_535]);
         }
     }
 }
 
-fn damage_entry(random: &mut Random, lent: &mut Buffers) {
-    let least = lent.low.len().min(lent.high.len()).min(lent.lengths.len());
-    if least == 0 {
-        return;
-    }
+/// Entries that refusal 10 is about, or the largest that pass: of one character's part, if one is given, or of any.
+fn damage_entry(random: &mut Random, interior: usize, character: Option<usize>, lent: &mut Buffers) {
     for _ in 0..random.pick(&[1, 1, 2, 8]) {
-        let at = random.below(least);
+        let at = match character {
+            Some(character) => (character - 1) * interior + random.below(interior.max(1)),
+            None => random.below(lent.low.len() + 1),
+        };
+        let (Some(low), Some(high), Some(length)) = (lent.low.get_mut(at), lent.high.get_mut(at), lent.lengths.get_mut(at)) else { continue };
         match random.below(6) {
-            0 => lent.low[at] = lent.high[at].saturating_add(1),
-            1 => lent.high[at] = random.pick(&[10_000, 10_001, 65_535]),
-            2 => (lent.low[at], lent.high[at]) = (10_000, 10_000),
-            3 => lent.lengths[at] = random.pick(&[5_089_492, 5_089_493, u32::MAX]),
-            4 => (lent.low[at], lent.high[at]) = (5, 4),
-            // the largest that pass
-            _ => (lent.low[at], lent.high[at], lent.lengths[at]) = (9999, 9999, 5_089_491),
+            0 => *low = high.saturating_add(1),
+            1 => *high = random.pick(&[10_000, 10_001, 65_535]),
+            2 => (*low, *high) = (10_000, 10_000),
+            3 => *length = random.pick(&[5_089_492, 5_089_493, u32::MAX]),
+            4 => (*low, *high) = (5, 4),
+            _ => (*low, *high, *length) = (9999, 9999, 5_089_491),
         }
     }
 }
 
-/// One fault in a case about a tree and a matrix.
-pub fn damage(random: &mut Random, case: &mut Case) {
-    let had = match case.call {
-        Call::Character { n, .. }
-        | Call::Tree { n, .. }
-        | Call::Build { n, .. }
-        | Call::Correct { n, .. }
-        | Call::KeptLength { n, .. }
-        | Call::KeptCharacter { n, .. } => n,
-        Call::ReadSheet | Call::Report => 0,
+/// The kinds of fault in a case about a tree and a matrix, in the order in which they are looked for.
+#[derive(Clone, Copy, PartialEq, Eq)]
+pub enum Fault {
+    Size,
+    Length,
+    Tree,
+    Number,
+    State,
+    NewState,
+    Entry,
+}
+
+pub const FAULTS: [Fault; 7] = [Fault::Size, Fault::Length, Fault::Tree, Fault::Number, Fault::State, Fault::NewState, Fault::Entry];
+
+/// One fault. Where the call has no such fault, nothing is changed.
+pub fn damage(random: &mut Random, fault: Fault, case: &mut Case) {
+    let (had_n, had_c, had_character) = match case.call {
+        Call::Character { n, c, character, .. } | Call::Correct { n, c, character, .. } | Call::KeptCharacter { n, c, character } => {
+            (n, c, Some(character).filter(|character| (1..=c).contains(character)))
+        }
+        Call::Tree { n, c } | Call::Build { n, c } | Call::KeptLength { n, c } => (n, c, None),
+        Call::ReadSheet | Call::Report => (0, 0, None),
     };
-    match random.below(9) {
-        0 => match &mut case.call {
+    let (had_n, had_c) = (had_n.clamp(3, 256) as usize, had_c.clamp(1, 512) as usize);
+    let character = had_character.map(|character| character.min(512) as usize).filter(|_| !random.one_in(3));
+    match (fault, &mut case.call) {
+        (
+            Fault::Size,
             Call::Character { n, c, .. }
             | Call::Tree { n, c }
             | Call::Build { n, c }
             | Call::Correct { n, c, .. }
             | Call::KeptLength { n, c }
-            | Call::KeptCharacter { n, c, .. } => {
-                if random.one_in(2) {
-                    *n = other_size(random, *n);
-                } else {
-                    *c = other_size(random, *c);
-                }
+            | Call::KeptCharacter { n, c, .. },
+        ) => {
+            let size = if random.one_in(2) { n } else { c };
+            *size = other_size(random, *size);
+        }
+        (Fault::Length, _) => damage_length(random, case),
+        (Fault::Tree, _) => damage_tree(random, had_n, &mut case.lent.tree),
+        (Fault::Number, Call::Correct { n, c, taxon, character, .. }) => {
+            if random.one_in(2) {
+                *taxon = other_number(random, *n);
+            } else {
+                *character = other_number(random, *c);
             }
-            Call::ReadSheet | Call::Report => {}
-        },
-        1 => damage_length(random, case),
-        2..=4 => damage_tree(random, had as usize, &mut case.lent.tree),
-        5 => damage_state(random, &mut case.lent.matrix),
-        6 => match &mut case.call {
-            Call::Character { c, character, .. } | Call::KeptCharacter { c, character, .. } => *character = other_number(random, *c),
-            Call::Correct { n, c, taxon, character, .. } => {
-                if random.one_in(2) {
-                    *taxon = other_number(random, *n);
-                } else {
-                    *character = other_number(random, *c);
-                }
-            }
-            _ => damage_length(random, case),
-        },
-        7 => match &mut case.call {
-            Call::Correct { state, .. } => *state = random.pick(&[10_000, 10_001, 32_768, 65_535]),
-            _ => damage_state(random, &mut case.lent.matrix),
-        },
-        _ => damage_entry(random, &mut case.lent),
+        }
+        (Fault::Number, Call::Character { c, character, .. } | Call::KeptCharacter { c, character, .. }) => *character = other_number(random, *c),
+        (Fault::State, _) => damage_state(random, had_c, character, &mut case.lent.matrix),
+        (Fault::NewState, Call::Correct { state, .. }) => *state = random.pick(&[10_000, 10_001, 32_768, 65_535]),
+        (Fault::Entry, _) => damage_entry(random, had_n - 2, character, &mut case.lent),
+        _ => {}
     }
 }
 
@@ -387,7 +399,7 @@ pub fn good_sheet(random: &mut Random) -> Vec<u8> {
         damage_tree(random, n, &mut table);
     }
     if random.one_in(8) {
-        damage_state(random, &mut states);
+        damage_state(random, c, None, &mut states);
     }
     let resolve = random.pick(&[None, Some("acctran"), Some("deltran")]);
     sheet(n, c, &table, &states, resolve)

@@ -302,9 +302,19 @@ pub fn correct(
     }
     let path = tree.path(taxon);
     let from = (character - 1) * (n - 2);
+    // 10: the other descendant of each node on the path, if it is interior
     let part = Part { n, from, low, high, lengths };
-    let beside = |node: &usize| *node > n && !path.contains(node) && part.refused(*node);
-    if let Some(node) = path.iter().flat_map(|&node| tree.descendants[node]).filter(beside).min() {
+    let mut wrong = None;
+    let mut came = taxon;
+    for &node in &path {
+        let [one, other] = tree.descendants[node];
+        let beside = if one == came { other } else { one };
+        if beside > n && part.refused(beside) && wrong.is_none_or(|lowest| beside < lowest) {
+            wrong = Some(beside);
+        }
+        came = node;
+    }
+    if let Some(node) = wrong {
         return refuse(10, node);
     }
 
