@@ -132,7 +132,13 @@ impl<T: Copy + PartialEq> Laid<T> {
         let blank = memory == Memory::Blank && only_written;
         let mut store = Vec::with_capacity(values.len() + 2 * fence);
         store.extend(std::iter::repeat_n(MaybeUninit::new(fill), fence));
-        store.extend(values.iter().map(|&value| if blank { MaybeUninit::uninit() } else { MaybeUninit::new(value) }));
+        if blank {
+            // SAFETY: the elements need no value, and there is room for them. (A list of `MaybeUninit::uninit()` would do in Rust, but the compiler may
+            // give it values, and then valgrind would see nothing.)
+            unsafe { store.set_len(values.len()) };
+        } else {
+            store.extend(values.iter().map(|&value| MaybeUninit::new(value)));
+        }
         store.extend(std::iter::repeat_n(MaybeUninit::new(fill), fence));
         Laid { store, fence, blank }
     }
