@@ -91,8 +91,9 @@ fn first_pass(tree: &Tree, states: &[u16], entries: &mut [Entry]) {
     for (taxon, &state) in states.iter().enumerate() {
         entries[taxon + 1] = Entry::of(state);
     }
-    for &node in tree.downward.iter().rev() {
-        entries[node] = Entry::above(tree.descendants[node].map(|below| entries[below]));
+    for step in &tree.upward {
+        let [node, one, other] = step.map(usize::from);
+        entries[node] = Entry::above([entries[one], entries[other]]);
     }
 }
 

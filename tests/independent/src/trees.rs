@@ -12,6 +12,8 @@ pub struct Tree {
     pub descendants: Vec<[usize; 2]>,
     /// The interior nodes, each before those below it.
     pub downward: Vec<usize>,
+    /// Each interior node with its two descendants, behind all that are below it.
+    pub upward: Vec<[u16; 3]>,
 }
 
 impl Tree {
@@ -76,7 +78,11 @@ impl Tree {
         }
         match (1..=nodes).find(|&node| !found[node]) {
             Some(node) => refuse(6, node),
-            None => Ok(Tree { n, root, top, ancestor, descendants, downward }),
+            None => {
+                let step = |&node: &usize| [node, descendants[node][0], descendants[node][1]].map(|node| node as u16);
+                let upward = downward.iter().rev().map(step).collect();
+                Ok(Tree { n, root, top, ancestor, descendants, downward, upward })
+            }
         }
     }
 
