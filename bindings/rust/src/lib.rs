@@ -109,6 +109,11 @@ pub fn character(
 
 pub use lent::tree;
 
+/// The page for engineers: what it shows in Rust runs as a test.
+#[cfg(doctest)]
+#[doc = include_str!("../../../docs/PROGRAMS.md")]
+struct Programs;
+
 /// A sheet that was read. Whether its tree is one, and its states are 0 to 9999, the other calls will say.
 #[derive(Clone, Debug, PartialEq, Eq)]
 pub struct Sheet {
