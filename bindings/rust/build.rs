@@ -1,7 +1,6 @@
 //! Finds the static library: in the folder that BADRUMELLO_LIB_DIR names, or else where `rt staticlib editions` leaves it in the repository.
 use std::env;
 use std::path::{Path, PathBuf};
-use std::process::exit;
 
 /// The library's name in a folder: installed, or as the toolchain writes it.
 fn name_in(folder: &Path) -> Option<&'static str> {
@@ -15,15 +14,14 @@ fn main() {
     let folder = named.clone().unwrap_or_else(|| here.join("../../target/staticlib"));
     println!("cargo::rerun-if-changed={}", folder.display());
     let Some(name) = name_in(&folder) else {
-        eprintln!("badrumello: there is no libbadrumello.a and no libeditions.a in {}.", folder.display());
-        match named {
-            Some(_) => eprintln!("That is the folder BADRUMELLO_LIB_DIR names. After `./install PREFIX` in the repository it is PREFIX/lib (a full path)."),
+        let run = match named {
+            Some(_) => "that is the folder BADRUMELLO_LIB_DIR names; after `./install PREFIX` in the repository it is PREFIX/lib, as a full path",
             None => {
-                eprintln!("Run `rt staticlib editions` in the repository, which proves the library and leaves it there;");
-                eprintln!("or run `./install PREFIX` there and set BADRUMELLO_LIB_DIR to PREFIX/lib (a full path).");
+                "run `rt staticlib editions` in the repository, or `./install PREFIX` there and set BADRUMELLO_LIB_DIR to PREFIX/lib, as a full path"
             }
-        }
-        exit(1);
+        };
+        println!("cargo::error=there is no libbadrumello.a and no libeditions.a in {}: {run}", folder.display());
+        return;
     };
     println!("cargo::rerun-if-changed={}", folder.join(format!("lib{name}.a")).display());
     println!("cargo::rustc-link-search=native={}", folder.display());

@@ -41,15 +41,7 @@ pub struct Found<'a> {
 /// assert_eq!(f, [1, 1]);
 /// # Ok::<(), badrumello::Refusal>(())
 /// ```
-pub fn character(
-    n: usize,
-    c: usize,
-    character: usize,
-    resolve: Resolve,
-    tree: &[u16],
-    matrix: &[u16],
-    found: Found<'_>,
-) -> Result<Scores, Refusal> {
+pub fn character(n: usize, c: usize, character: usize, resolve: Resolve, tree: &[u16], matrix: &[u16], found: Found<'_>) -> Result<Scores, Refusal> {
     let Found { first_low, first_high, subtree, final_low, final_high, states } = found;
     let mut result = [0; 7];
     // SAFETY: every pointer and length is of one borrowed slice, and what is written is borrowed mutably.
@@ -87,30 +79,13 @@ pub fn tree(n: usize, c: usize, tree: &[u16], matrix: &[u16]) -> Result<Scores, 
     let mut result = [0; 7];
     // SAFETY: as in `character`.
     let value = unsafe {
-        raw::badrumello_tree(
-            n as u64,
-            c as u64,
-            tree.as_ptr(),
-            tree.len(),
-            matrix.as_ptr(),
-            matrix.len(),
-            result.as_mut_ptr(),
-            result.len(),
-        )
+        raw::badrumello_tree(n as u64, c as u64, tree.as_ptr(), tree.len(), matrix.as_ptr(), matrix.len(), result.as_mut_ptr(), result.len())
     };
     Refusal::read(value).map(|_| Scores::read(result))
 }
 
 /// Builds a kept table: three slices of (n-2)c entries, character 1 first, and of each character node n+1 first. Refusals: 1 to 7.
-pub fn build(
-    n: usize,
-    c: usize,
-    tree: &[u16],
-    matrix: &[u16],
-    low: &mut [u16],
-    high: &mut [u16],
-    lengths: &mut [u32],
-) -> Result<(), Refusal> {
+pub fn build(n: usize, c: usize, tree: &[u16], matrix: &[u16], low: &mut [u16], high: &mut [u16], lengths: &mut [u32]) -> Result<(), Refusal> {
     // SAFETY: as in `character`.
     let value = unsafe {
         raw::badrumello_build(
@@ -170,15 +145,7 @@ pub fn correct(
 }
 
 /// The length of the tree, from a kept table. Refusals: 1 to 7, and 10 in any entry.
-pub fn kept_length(
-    n: usize,
-    c: usize,
-    tree: &[u16],
-    matrix: &[u16],
-    low: &[u16],
-    high: &[u16],
-    lengths: &[u32],
-) -> Result<u32, Refusal> {
+pub fn kept_length(n: usize, c: usize, tree: &[u16], matrix: &[u16], low: &[u16], high: &[u16], lengths: &[u32]) -> Result<u32, Refusal> {
     // SAFETY: as in `character`.
     let value = unsafe {
         raw::badrumello_kept_length(

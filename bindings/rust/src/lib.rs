@@ -84,14 +84,7 @@ pub struct Character {
 }
 
 /// One character afresh. Refusals: 1 to 6, 8 if there is no such character, 7 in this character's cells.
-pub fn character(
-    n: usize,
-    c: usize,
-    character: usize,
-    resolve: Resolve,
-    tree: &[u16],
-    matrix: &[u16],
-) -> Result<Character, Refusal> {
+pub fn character(n: usize, c: usize, character: usize, resolve: Resolve, tree: &[u16], matrix: &[u16]) -> Result<Character, Refusal> {
     let entries = if within(n, c) { n - 2 } else { 0 };
     let (mut first, mut last) = (Ranges::room(entries), Ranges::room(entries));
     let (mut subtree, mut states) = (vec![0; entries], vec![0; entries]);

@@ -8,6 +8,8 @@
 //! pointer is `*const`, and for `matrix`, `low`, `high` and `lengths` of [`badrumello_correct`]), and a slice that is written overlaps no other slice
 //! of the call and is used by nobody else during it.
 
+// a slice's pointer and length stand side by side
+#[rustfmt::skip]
 unsafe extern "C" {
     /// One character afresh.
     pub fn badrumello_character(

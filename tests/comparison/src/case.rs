@@ -192,18 +192,9 @@ impl Case {
                 calls::correct(n, c, taxon, character, state, &b.tree, &mut b.matrix, &mut b.low, &mut b.high, &mut b.lengths)
             }
             Call::KeptLength { n, c } => calls::kept_length(n, c, &b.tree, &b.matrix, &b.low, &b.high, &b.lengths),
-            Call::KeptCharacter { n, c, character } => calls::kept_character(
-                n,
-                c,
-                character,
-                &b.tree,
-                &b.matrix,
-                &b.low,
-                &b.high,
-                &b.lengths,
-                &mut b.final_low,
-                &mut b.final_high,
-            ),
+            Call::KeptCharacter { n, c, character } => {
+                calls::kept_character(n, c, character, &b.tree, &b.matrix, &b.low, &b.high, &b.lengths, &mut b.final_low, &mut b.final_high)
+            }
             Call::ReadSheet => sheets::read_sheet(&b.text, &mut b.tree, &mut b.matrix, &mut b.result),
             Call::Report => sheets::report(&b.text, &mut b.out),
         };
@@ -218,7 +209,6 @@ impl Case {
         let longs = |values: &[u32], only_written: bool| Laid::new(values, 0xDEAD_BEEF, memory, only_written);
         let bytes = |values: &[u8], only_written: bool| Laid::new(values, 0x5A, memory, only_written);
         let sheet = self.call == Call::ReadSheet;
-        let correcting = matches!(self.call, Call::Correct { .. });
         let building = matches!(self.call, Call::Build { .. });
         let mut text = bytes(&b.text, false);
         let mut tree = words(&b.tree, sheet);
@@ -234,7 +224,6 @@ impl Case {
         let mut lengths = longs(&b.lengths, building);
         let mut result = longs(&b.result, true);
         let mut out = bytes(&b.out, true);
-        debug_assert!(!(correcting && building));
         // SAFETY: each slice is an allocation, or a part of one, of its own.
         let value = unsafe {
             match self.call {
@@ -399,8 +388,7 @@ impl Case {
                     final_high: &mut b.final_high,
                     states: &mut b.states,
                 };
-                lent::character(small(n), small(c), small(character), resolve, &b.tree, &b.matrix, found)
-                    .map(|scores| seven(scores, &mut b.result))
+                lent::character(small(n), small(c), small(character), resolve, &b.tree, &b.matrix, found).map(|scores| seven(scores, &mut b.result))
             }
             Call::Tree { n, c } => {
                 if b.result.len() != 7 {
@@ -408,9 +396,7 @@ impl Case {
                 }
                 lent::tree(small(n), small(c), &b.tree, &b.matrix).map(|scores| seven(scores, &mut b.result))
             }
-            Call::Build { n, c } => {
-                lent::build(small(n), small(c), &b.tree, &b.matrix, &mut b.low, &mut b.high, &mut b.lengths).map(|()| 0)
-            }
+            Call::Build { n, c } => lent::build(small(n), small(c), &b.tree, &b.matrix, &mut b.low, &mut b.high, &mut b.lengths).map(|()| 0),
             Call::Correct { n, c, taxon, character, state } => lent::correct(
                 small(n),
                 small(c),
@@ -462,12 +448,11 @@ impl Case {
         if library != expected {
             return Err(self.differ("the library", library, expected));
         }
-        if memory == Memory::Fenced {
-            if let Some(binding) = self.binding() {
-                if binding != expected {
-                    return Err(self.differ("the binding", binding, expected));
-                }
-            }
+        if memory == Memory::Fenced
+            && let Some(binding) = self.binding()
+            && binding != expected
+        {
+            return Err(self.differ("the binding", binding, expected));
         }
         Ok(expected)
     }

@@ -245,15 +245,7 @@ fn small(random: &mut Random, memory: Memory, tally: &mut Tally) -> Result<(), S
 }
 
 /// All characters of a small tree against every way of giving integers to its interior nodes.
-pub fn every_way(
-    random: &mut Random,
-    n: usize,
-    c: usize,
-    tree: &[u16],
-    matrix: &[u16],
-    memory: Memory,
-    tally: &mut Tally,
-) -> Result<(), String> {
+pub fn every_way(random: &mut Random, n: usize, c: usize, tree: &[u16], matrix: &[u16], memory: Memory, tally: &mut Tally) -> Result<(), String> {
     let mut total = 0;
     let building = inputs::around(random, 2, n, c, tree.to_vec(), matrix.to_vec());
     let table = compare(&building, memory, tally)?.1;

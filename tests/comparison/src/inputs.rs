@@ -75,12 +75,12 @@ pub fn matrix(random: &mut Random, n: usize, c: usize) -> Vec<u16> {
 
 /// A slice of words that are no answer.
 fn words(random: &mut Random, len: usize) -> Vec<u16> {
-    let from = random.next() as u16;
+    let from = random.bits() as u16;
     (0..len).map(|at| from ^ (at as u16).wrapping_mul(0x9E37)).collect()
 }
 
 fn longs(random: &mut Random, len: usize) -> Vec<u32> {
-    let from = random.next() as u32;
+    let from = random.bits() as u32;
     (0..len).map(|at| from ^ (at as u32).wrapping_mul(0x9E37_79B9)).collect()
 }
 
@@ -158,8 +158,7 @@ pub fn around(random: &mut Random, kind: usize, n: usize, c: usize, tree: Vec<u1
 
 // ---- damage
 
-const ODD_SIZES: [u64; 14] =
-    [0, 1, 2, 257, 258, 513, 514, 65_536, 65_540, 1 << 31, (1 << 32) + 4, 1 << 63, (1 << 63) + 3, u64::MAX];
+const ODD_SIZES: [u64; 14] = [0, 1, 2, 257, 258, 513, 514, 65_536, 65_540, 1 << 31, (1 << 32) + 4, 1 << 63, (1 << 63) + 3, u64::MAX];
 
 /// Another size: outside the limits, or one more or less.
 fn other_size(random: &mut Random, size: u64) -> u64 {
@@ -452,8 +451,32 @@ pub fn damage_sheet(random: &mut Random, text: &mut Vec<u8>) {
                     to += 1;
                 }
                 let word = random.pick(&[
-                    "00", "01", "65535", "65536", "65540", "99999", "100000", "4294967296", "18446744073709551616", "", "-1", "+1", "1 ", " 1", "1,", ",1",
-                    "10000", "9999", "0", "2", "3", "256", "257", "512", "513", "1,1",
+                    "00",
+                    "01",
+                    "65535",
+                    "65536",
+                    "65540",
+                    "99999",
+                    "100000",
+                    "4294967296",
+                    "18446744073709551616",
+                    "",
+                    "-1",
+                    "+1",
+                    "1 ",
+                    " 1",
+                    "1,",
+                    ",1",
+                    "10000",
+                    "9999",
+                    "0",
+                    "2",
+                    "3",
+                    "256",
+                    "257",
+                    "512",
+                    "513",
+                    "1,1",
                 ]);
                 text.splice(from..to, word.bytes());
             }
@@ -486,13 +509,7 @@ pub fn sheet_case(random: &mut Random, text: Vec<u8>, report: bool) -> Case {
     if report {
         return Case { call: Call::Report, lent: Buffers { text, out: vec![UNTOUCHED; REPORT_SLICE], ..Buffers::default() } };
     }
-    let lent = Buffers {
-        text,
-        tree: words(random, TREE_SLICE),
-        matrix: words(random, MATRIX_SLICE),
-        result: longs(random, 3),
-        ..Buffers::default()
-    };
+    let lent = Buffers { text, tree: words(random, TREE_SLICE), matrix: words(random, MATRIX_SLICE), result: longs(random, 3), ..Buffers::default() };
     Case { call: Call::ReadSheet, lent }
 }
 

@@ -60,7 +60,8 @@ fn trees(n: usize) -> Vec<Vec<u16>> {
         // each other node has an interior ancestor, or, below the root, the root: 0 stands for it
         let mut choices = vec![0; 2 * n - 3];
         loop {
-            let mut table: Vec<u16> = choices.iter().map(|&choice| if choice == 0 { root as u16 + 1 } else { (n + choice as usize) as u16 }).collect();
+            let mut table: Vec<u16> =
+                choices.iter().map(|&choice| if choice == 0 { root as u16 + 1 } else { (n + choice as usize) as u16 }).collect();
             table.insert(root, 0);
             if Tree::accept(n, &table).is_ok() {
                 trees.push(table);
@@ -84,10 +85,9 @@ fn every_tree_of_up_to_five_taxa_by_every_way() {
             let mut states = vec![0; n];
             let mut at = 0;
             loop {
-                if n < 5 || at % 3 == k % 3 {
-                    if let Err(fault) = every_way(&mut random, n, 1, tree, &states, Memory::Fenced, &mut Tally::default()) {
-                        panic!("{fault}");
-                    }
+                let chosen = n < 5 || at % 3 == k % 3;
+                if chosen && let Err(fault) = every_way(&mut random, n, 1, tree, &states, Memory::Fenced, &mut Tally::default()) {
+                    panic!("{fault}");
                 }
                 at += 1;
                 if !count_up(&mut states, 2) {

@@ -161,16 +161,7 @@ pub(crate) fn describe(tree: &Tree, states: &[u16], deltran: bool, found: Found)
 }
 
 #[allow(clippy::too_many_arguments)]
-pub fn character(
-    n: u64,
-    c: u64,
-    character: u64,
-    deltran: bool,
-    tree: &[u16],
-    matrix: &[u16],
-    found: Found,
-    result: &mut [u32],
-) -> Answer {
+pub fn character(n: u64, c: u64, character: u64, deltran: bool, tree: &[u16], matrix: &[u16], found: Found, result: &mut [u32]) -> Answer {
     let (n, c) = sizes(n, c, |n, c| {
         [
             (tree.len(), 2 * n - 2),

@@ -1,4 +1,5 @@
 //! Tree tables.
+#![allow(clippy::needless_range_loop)] // nodes are counted from 1
 use crate::{Refusal, refuse};
 
 /// An accepted tree. Nodes are counted from 1; index 0 of the lists is not used.
