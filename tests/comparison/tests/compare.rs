@@ -29,12 +29,12 @@ fn covers(tally: &Tally, call: &str, slices: u32, others: &[u32]) {
 
 #[test]
 fn good_trees_and_matrices() {
-    run_all(Group::Good, 0..8_000);
+    run_all(Group::Good, 0..12_000);
 }
 
 #[test]
 fn damaged_cases() {
-    let tally = run_all(Group::Damaged, 0..150_000);
+    let tally = run_all(Group::Damaged, 0..300_000);
     covers(&tally, "character", 9, &[1, 3, 4, 5, 6, 7, 8]);
     covers(&tally, "tree", 3, &[1, 3, 4, 5, 6, 7]);
     covers(&tally, "build", 5, &[1, 3, 4, 5, 6, 7]);
@@ -45,7 +45,7 @@ fn damaged_cases() {
 
 #[test]
 fn foreign_tables() {
-    let tally = run_all(Group::Foreign, 0..20_000);
+    let tally = run_all(Group::Foreign, 0..40_000);
     for call in ["correct", "kept_length", "kept_character"] {
         assert!(tally.has(call, 0, 0) && tally.has(call, 10, 0), "{call} is not answered, or never refused 10");
     }
@@ -53,7 +53,7 @@ fn foreign_tables() {
 
 #[test]
 fn corrections_one_after_another() {
-    let tally = run_all(Group::Corrections, 0..1_500);
+    let tally = run_all(Group::Corrections, 0..2_500);
     assert!(tally.has("correct", 8, 0) && tally.has("correct", 9, 0));
 }
 
@@ -69,7 +69,7 @@ fn a_long_run_of_corrections() {
 
 #[test]
 fn sheets_read_and_reported() {
-    let tally = run_all(Group::Sheets, 0..8_000);
+    let tally = run_all(Group::Sheets, 0..12_000);
     covers(&tally, "read_sheet", 3, &[12, 11, 1]);
     covers(&tally, "report", 1, &[]);
     covers(&tally, "report says", 0, &[12, 11, 1, 3, 4, 5, 6, 7]);
@@ -77,7 +77,7 @@ fn sheets_read_and_reported() {
 
 #[test]
 fn small_trees_by_every_way() {
-    run_all(Group::Ways, 0..5_000);
+    run_all(Group::Ways, 0..8_000);
 }
 
 /// The largest sizes, each call, both extreme shapes.

@@ -1,5 +1,6 @@
 //! The examples of document 01, through the binding.
 use badrumello::{Index, KeptTable, Refusal, Resolve, Scores, character, report, tree};
+use independent::{calls, sheets};
 
 const TREE: [u16; 6] = [0, 5, 6, 6, 1, 5];
 const MATRIX: [u16; 8] = [0, 0, 3, 1, 1, 1, 5, 0];
@@ -71,4 +72,26 @@ fn damaged_trees() {
     assert_eq!(refused(tree(4, 2, &[0, 1, 5, 6, 6, 5], &MATRIX)), (6, 3));
     assert_eq!(refused(tree(3, 1, &[0, 1, 4, 4], &[0, 0, 0])), (6, 3));
     assert_eq!(refused(tree(4, 2, &[0, 5, 5, 5, 1, 5], &MATRIX)), (5, 5));
+}
+
+/// The header, the binding and the independent implementation have the same numbers.
+#[test]
+fn constants() {
+    let header = include_str!("../../../include/badrumello.h");
+    let defined = |name: &str| {
+        let line = header.lines().find_map(|line| line.strip_prefix(&format!("#define BADRUMELLO_{name} "))).expect("the header has it");
+        line.split_whitespace().next().and_then(|word| word.parse::<usize>().ok()).expect("a number")
+    };
+    assert_eq!([defined("MIN_TAXA"), defined("MAX_TAXA")], [badrumello::MIN_TAXA, badrumello::MAX_TAXA]);
+    assert_eq!([defined("MAX_CHARACTERS"), defined("MAX_STATE")], [badrumello::MAX_CHARACTERS, badrumello::MAX_STATE.into()]);
+    assert_eq!([defined("MAX_STATE"), defined("MAX_KEPT_LENGTH")], [calls::HIGHEST_STATE.into(), calls::LONGEST_KEPT as usize]);
+    for (name, binding, independent) in [
+        ("MAX_SHEET_BYTES", badrumello::MAX_SHEET_BYTES, sheets::MOST_BYTES),
+        ("SHEET_TREE", badrumello::SHEET_TREE, sheets::TREE_SLICE),
+        ("SHEET_MATRIX", badrumello::SHEET_MATRIX, sheets::MATRIX_SLICE),
+        ("REPORT_BYTES", badrumello::REPORT_BYTES, sheets::REPORT_SLICE),
+    ] {
+        assert_eq!([binding, independent], [defined(name); 2]);
+    }
+    assert_eq!(defined("STACK_BYTES"), 262_144, "the stack that the comparison gives each call");
 }

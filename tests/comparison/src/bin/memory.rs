@@ -9,7 +9,7 @@ use std::process::exit;
 fn main() {
     let words: Vec<u64> = std::env::args().skip(1).map(|word| word.parse().expect("seeds are numbers")).collect();
     let (first, last) = match words[..] {
-        [] => (1, 60),
+        [] => (1, 120),
         [first, last] => (first, last),
         _ => {
             eprintln!("usage: memory [FIRST LAST]");
