@@ -10,6 +10,7 @@
 --     Characters  one ordered character, as lists of numbers
 --     Uniqueness  what has a meaning has it alone
 --     Spread      the greatest difference between two states
+--     Extent      no way is shorter than two of its states are apart
 -- Assumes nothing.
 pub mod Theorems
 pub mod Examples
@@ -23,3 +24,4 @@ pub mod Matrices
 pub mod Characters
 pub mod Uniqueness
 pub mod Spread
+pub mod Extent

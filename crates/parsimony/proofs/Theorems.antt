@@ -31,6 +31,7 @@ use Rattle.parsimony.proofs.Ranges.Joins as joins
 use Rattle.parsimony.proofs.Ranges.Joins.{join2, cost2, join3, median, OverlapOrGap}
 use Rattle.parsimony.proofs.Uniqueness as unique
 use Rattle.parsimony.proofs.Spread as spread
+use Rattle.parsimony.proofs.Extent as extent
 
 -- ---- Any tree
 
@@ -187,3 +188,8 @@ pub m-greatest : (n : ℕ) (state : ℕ → ℕ) → 1 ≤ n
     → ((i j : ℕ) → 1 ≤ i → i ≤ n → 1 ≤ j → j ≤ n → state i - state j ≤ m n state)
     × ((i : ℕ) × (j : ℕ) × ((1 ≤ i) × (i ≤ n)) × ((1 ≤ j) × (j ≤ n)) × (state i - state j ≡ m n state))
 m-greatest = spread.m-is
+
+-- It is at most the length, so that no index is above 1.
+pub m-at-most-length : (n : ℕ) (state : ℕ → ℕ) (tree : List ℕ) (ρ δ l : ℕ) → IsTree n tree ρ δ → LengthMeans ordered n (cells n state) tree l
+    → m n state ≤ l
+m-at-most-length = extent.m-shortest

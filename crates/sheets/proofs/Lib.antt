@@ -2,5 +2,5 @@
 -- Assumes nothing.
 pub mod Theorems
 pub mod Unique
-mod Copying
+pub mod Copying
 mod Refusing

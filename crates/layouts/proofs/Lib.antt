@@ -1,0 +1,2 @@
+-- How long the parts of a report are.
+-- Assumes nothing.
