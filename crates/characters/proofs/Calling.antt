@@ -92,26 +92,28 @@ all-small n matrix c N j k a b p q = go (decLe (stateOf matrix c j k) 9999)
     go (yes l) = l
     go (no l) = absurd (N ((k - 1) * c + j) (omega arith) cell (omega arith))
 
+-- an accepted tree and its matrix, whatever other slices there are
+pub given-all : (n c : ℕ) (tree matrix : List ℕ) (rest : List Slice) (L : InLimits n c) (told : Lent)
+    → Told 1 (lentSlices n c tree matrix rest) told → (ρ δ : ℕ) → AdmitsMatrix n c tree matrix told (Admitted ρ δ) → Given n c ρ δ tree matrix
+given-all n c tree matrix rest L told t ρ δ A =
+    record {
+      sized = sized n c tree matrix rest L told t (A .0);
+      accepted = A .1;
+      cells =
+          record {
+            least = omega (arith, L .least);
+            most = L .most;
+            few = L .few;
+            rows = admissible n c tree matrix rest L told t .exact (A .0) .1;
+            small = all-small n matrix c (A .2);
+          };
+    }
+
 module _ (n c : ℕ) (tree matrix : List ℕ) (L : InLimits n c) (told : Lent) (t : Told 1 (lentSlices n c tree matrix []) told) where
   pub all-refused : (r : Refusal) → AdmitsMatrix n c tree matrix told (Refused r) → Refuses (matrixChecks n c tree matrix []) r
   all-refused r h = matrix-inside n c tree matrix [] L r (h (lentSlices n c tree matrix []) t)
 
   module _ (ρ δ : ℕ) (A : AdmitsMatrix n c tree matrix told (Admitted ρ δ)) where
-    pub given-all : Given n c ρ δ tree matrix
-    given-all =
-        record {
-          sized = sized n c tree matrix [] L told t (A .0);
-          accepted = A .1;
-          cells =
-              record {
-                least = omega (arith, L .least);
-                most = L .most;
-                few = L .few;
-                rows = admissible n c tree matrix [] L told t .exact (A .0) .1;
-                small = all-small n matrix c (A .2);
-              };
-        }
-
     pub all-scored : (s : Scores) → TreeScores n c matrix tree ρ s → AllScored n c tree matrix s
     all-scored s M =
         record {

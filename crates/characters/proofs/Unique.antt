@@ -3,10 +3,9 @@
 use mathlib.Core.Path.{_≡_, refl, sym, _∙_, ap, ap₂, subst}
 use mathlib.Core.Logic.{_≢_}
 use mathlib.Core.List.{List, []}
-use Prim.Native.Nat.{ℕ, suc, _+_, _-_, _*_, _≤_, _<_}
+use Prim.Native.Nat.{ℕ, _-_, _*_, _≤_, _<_}
 use native.Mathlib.Omega.{arith}
-use lib.ListN.{length, getD}
-use lib.Seq.{ext-getD}
+use lib.ListN.{length}
 use lib.IntN.{ℤ, pos}
 use Rattle.parsimony.specs.Lists.{sum, from}
 use Rattle.parsimony.specs.Table.{Accepted}
@@ -16,7 +15,7 @@ use Rattle.parsimony.specs.Character.{atNode, cells, ranges, wayOf}
 use Rattle.parsimony.specs.Steps.{Chosen}
 use Rattle.parsimony.specs.Index as index
 use Rattle.parsimony.proofs.Sums.{sum-alike}
-use Rattle.parsimony.proofs.Characters.{way-taxon, way-inner}
+use Rattle.parsimony.proofs.Characters.{same-entries, way-taxon, way-inner}
 use Rattle.parsimony.proofs.Uniqueness.{one-least, one-ordered-entry, one-ordered-final}
 use Rattle.parsimony.proofs.Ranges.Distances.{pos-same}
 use Rattle.parsimony.proofs.Ranges.Laws.{ordered-laws}
@@ -84,18 +83,6 @@ scores-same s s′ el em eg I I′ = made (s .ci) (s′ .ci) (s .ri) (s′ .ri) 
     made : {l l′ m m′ g g′ : ℕ} (c c′ r r′ : Index) → l ≡ l′ → m ≡ m′ → g ≡ g′ → c ≡ c′ → r ≡ r′
         → _≡_ {A = Scores} (record { length = l; m = m; g = g; ci = c; ri = r }) (record { length = l′; m = m′; g = g′; ci = c′; ri = r′ })
     made c c′ r r′ a b d e f = cc
-
--- ---- lists with an entry for each interior node
-
--- two of them are the same if their entries are, at every interior node
-same-entries : (n : ℕ) (tree xs ys : List ℕ) → length tree ≡ 2 * n - 2 → length xs ≡ n - 2 → length ys ≡ n - 2
-    → ((v : ℕ) → n < v → v ≤ length tree → atNode n xs v ≡ atNode n ys v) → xs ≡ ys
-same-entries n tree xs ys e p q h = ext-getD 0 xs ys (p ∙ sym q) at
-  where
-    at : (i : ℕ) → i < length xs → getD xs i 0 ≡ getD ys i 0
-    at i l =
-        let place : suc (n + i) - suc n ≡ i = omega arith in
-        ap (λ k. getD xs k 0) (sym place) ∙ h (suc (n + i)) (omega arith) (omega arith) ∙ ap (λ k. getD ys k 0) place
 
 -- ---- one character
 

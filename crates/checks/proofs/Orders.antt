@@ -38,12 +38,12 @@ use Rattle.checks.proofs.Admitting.{refusal, clear-character, clear-cel
 
 -- ---- each check has one place
 
-sure-cell : (n c j : ℕ) (matrix : List ℕ) → Sure (characterCell n c j matrix)
+pub sure-cell : (n c j : ℕ) (matrix : List ℕ) → Sure (characterCell n c j matrix)
 sure-cell n c j matrix p p′ (t, e, L) (t′, e′, L′) =
     e ∙ subst (λ u. (u - 1) * c + j ≡ p′) (sym (lowest-one (AboveIn matrix c j) n t t′ L L′)) (sym e′)
 
 module _ (n c : ℕ) (tree matrix : List ℕ) (rest : List Slice) where
-  sure-call : (cs : List {1} Check) → AllSure cs
+  pub sure-call : (cs : List {1} Check) → AllSure cs
       → AllSure (at 1 0 (Outside n c) ∷ slices 1 (lentSlices n c tree matrix rest) ++ (treeFaults n tree ++ cs))
   sure-call cs S = (
     sure-at 1 0 (Outside n c),
@@ -91,7 +91,7 @@ module _ (n c : ℕ) (tree matrix : List ℕ) (rest : List Slice) where
     pub rest-passes : told ≡ Exact → Passes (slices 3 rest)
     rest-passes e = let (p, (q, r)) = told-passes e in r
 
-    passes-call : (cs : List {1} Check) → told ≡ Exact → (ρ δ : ℕ) → table.Accepted n tree ρ δ → Passes cs
+    pub passes-call : (cs : List {1} Check) → told ≡ Exact → (ρ δ : ℕ) → table.Accepted n tree ρ δ → Passes cs
         → Passes (at 1 0 (Outside n c) ∷ slices 1 (lentSlices n c tree matrix rest) ++ (treeFaults n tree ++ cs))
     passes-call cs e ρ δ A P = (
       clear-at 1 0 (Outside n c) (not-outside n c L),

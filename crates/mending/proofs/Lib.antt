@@ -1,7 +1,9 @@
 -- One node settled from its descendants (Nodes), the climb from a taxon (Climbs), what the lists hold after some nodes of it (Turns), and one node more
--- (Paths).
+-- (Paths). What a mended path means (Means), and that it has one outcome (Unique).
 -- Assumes nothing.
 pub mod Nodes
 pub mod Climbs
 pub mod Turns
 pub mod Paths
+pub mod Means
+pub mod Unique

@@ -3,11 +3,11 @@
 use mathlib.Core.Path.{_≡_, refl, sym, _∙_, ap, subst}
 use mathlib.Core.Logic.{_≢_, _↔_}
 use mathlib.Core.List.{List, [], _∷_}
-use Prim.Native.Nat.{ℕ, suc, _+_, _-_, _≤_, _<_, min, max}
+use Prim.Native.Nat.{ℕ, suc, _+_, _-_, _*_, _≤_, _<_, min, max}
 use native.Mathlib.Decide.{decLe}
 use native.Mathlib.Omega.{arith}
 use lib.ListN.{length, getD, set}
-use lib.Seq.{getD-set-same, getD-set-other}
+use lib.Seq.{getD-set-same, getD-set-other, ext-getD}
 use lib.IntN.{ℤ, pos, negsuc}
 use Rattle.parsimony.specs.Lists.{choose}
 use Rattle.parsimony.specs.Table.{ancestor, IsTree}
@@ -53,6 +53,20 @@ module _ (n : ℕ) (entries : List ℕ) (v x : ℕ) (inner : n < v) where
 
   pub entry-other : (u : ℕ) → n < u → u ≢ v → atNode n (set entries (v - n - 1) x) u ≡ atNode n entries u
   entry-other u h d = getD-set-other entries (v - n - 1) (u - suc n) x 0 (λ e. d (omega arith))
+
+-- ---- lists with an entry for each interior node
+
+-- two of them are the same if their entries are, at every interior node
+pub same-entries : (n : ℕ) (tree xs ys : List ℕ) → length tree ≡ 2 * n - 2 → length xs ≡ n - 2 → length ys ≡ n - 2
+    → ((v : ℕ) → n < v → v ≤ length tree → atNode n xs v ≡ atNode n ys v) → xs ≡ ys
+same-entries n tree xs ys e p q h = ext-getD 0 xs ys (p ∙ sym q) at
+  where
+    at : (i : ℕ) → i < length xs → getD xs i 0 ≡ getD ys i 0
+    at i l =
+        let place : suc (n + i) - suc n ≡ i = omega arith in
+        ap (λ k. getD xs k 0) (sym place) ∙ h (suc (n + i)) (omega arith) (omega arith) ∙ ap (λ k. getD ys k 0) place
+
+-- ---- what stands at a node
 
 module _ (n : ℕ) (state : ℕ → ℕ) where
   -- to agree is to have the taxa's states

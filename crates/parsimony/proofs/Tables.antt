@@ -14,6 +14,8 @@
 --     Final         what the second pass means
 --     Chosen        ACCTRAN's and DELTRAN's ways are shortest, and there is one of each
 --     Mending       a corrected cell: what stays settled
+--     Meant         entries that have their meaning are settled
+--     Bounds        how high and how long such entries can be
 -- Assumes nothing.
 pub mod Descendants
 pub mod Climbing
@@ -30,3 +32,5 @@ pub mod First
 pub mod Final
 pub mod Chosen
 pub mod Mending
+pub mod Meant
+pub mod Bounds

@@ -106,7 +106,7 @@ enum-known-admission-2 c = search needs
 score-all-requires : tie.Need-score-all-requires
 score-all-requires c κs =
     given-all ((start-of-known-told2 c) .args .n) ((start-of-known-told2 c) .args .c) ((start-of-known-told2 c) .args .tree .now)
-    ((start-of-known-told2 c) .args .matrix .now) (limits (else1-of-known-told2 c)) ((lend2-of-known-told2 c) .lend2 .result)
+    ((start-of-known-told2 c) .args .matrix .now) [] (limits (else1-of-known-told2 c)) ((lend2-of-known-told2 c) .lend2 .result)
     (told-all (lend2-of-known-told2 c)) _ _ (subst (AdmitsMatrix ((start-of-known-told2 c) .args .n) ((start-of-known-told2 c) .args .c)
     ((start-of-known-told2 c) .args .tree .now) ((start-of-known-told2 c) .args .matrix .now) ((lend2-of-known-told2 c) .lend2 .result))
     ((c .before) .admission2 .given .1) ((admit-matrix-of-known-told2 c) .admit-matrix .ensures))

@@ -20,7 +20,7 @@ use Rattle.parsimony.proofs.Rose.Reroot.{_⊕_, allowed-off, off-allowe
 use Rattle.parsimony.proofs.Rose.Delay.{NearestFinal, Ruled, put-off-least, nearest-final-puts-off}
 use Rattle.parsimony.proofs.Tables.Descendants.{Descends, each-descends}
 use Rattle.parsimony.proofs.Tables.Trees.{Tree, δ-ancestor, δ-most}
-use Rattle.parsimony.proofs.Tables.Fitting.{in-tree}
+use Rattle.parsimony.proofs.Tables.Fitting.{in-tree, not-root}
 use Rattle.parsimony.proofs.Tables.Whole.{δ-inner, crown, crown-fits, whole, whole-off, whole-length}
 use Rattle.parsimony.proofs.Tables.Choices.{accelerated, rangeOver, rangeOf, NearestRange, nearest-by-branch, whole-ruled}
 use Rattle.parsimony.proofs.Tables.Ways.{from-whole, length-whole}
@@ -30,7 +30,7 @@ use Rattle.parsimony.proofs.Tables.Final.{seen, seen-inner, known, seen
 module _ (K : Kind) (laws : Laws K) (cell : ℕ → K .Region) (T : Tree) (entry : ℕ → K .Region) (size : ℕ → ℕ) where
   open Kind K using (State, Region, distance, away, join, nearest)
   open Tree T using (n, tree, ρ, δ, is-tree)
-  open IsTree is-tree using (some, taxon, root, sole, within, leaf, fork, reach)
+  open IsTree is-tree using (some, taxon, sole, within, leaf, fork, reach)
 
   -- what holds at each node but the root and its descendant, of the node and its ancestor, holds of a node's descendants
   follows : (Branch : ℕ → ℕ → Type 0) → ((c : ℕ) → 1 ≤ c → c ≤ length tree → c ≢ ρ → Branch (ancestor tree c) c)
@@ -40,7 +40,7 @@ module _ (K : Kind) (laws : Laws K) (cell : ℕ → K .Region) (T : Tree) (entry
       at : (c : ℕ) → Descends tree v c → Branch v c
       at c d =
           subst (λ u. Branch u c) (sym (d .of))
-          (h c (d .some) (d .most) (λ (e : c ≡ ρ). omega (arith, d .of, ap (ancestor tree) e, root)))
+          (h c (d .some) (d .most) (not-root T v p c d))
 
   module _ (P : FirstPass K n cell tree entry size) where
     -- a way of this length that agrees is a shortest way

@@ -160,6 +160,10 @@ module _ (T : Tree) where
       most m (yes r) = r
       most m (no r) = omega (arith, no-ancestor T (top t) k p (past-table tree k (omega arith)) m)
 
+  -- a descendant is not the root, which has no ancestor
+  pub not-root : (v : ℕ) → 1 ≤ v → (c : ℕ) → Descends tree v c → c ≢ ρ
+  not-root v p c d e = omega (arith, d .of, ap (ancestor tree) e, root)
+
   -- the tree of an interior node
   pub tree-of : (v : ℕ) → n < v → v ≤ length tree → (f : Roses) × Fits (descendants tree) (node v f)
   tree-of v lo hi = let (t, h, e) = grown v in full t h e
@@ -167,3 +171,32 @@ module _ (T : Tree) where
       full : (t : Rose) → Fits (descendants tree) t → top t ≡ v → (f : Roses) × Fits (descendants tree) (node v f)
       full (tip k) h e = let z : ⊥ = omega (arith, fork v lo hi, ap (λ j. length (descendants tree j)) e, ap length h) in absurd z
       full (node k f) h e = (f, (h .0 ∙ ap (descendants tree) e, h .1))
+
+  -- ---- from the taxa up
+
+  -- what holds of the taxa, and of an interior node as soon as it holds of its descendants, holds of every node but the root
+  module _ (P : ℕ → Type 0) (taxa : (k : ℕ) → 1 ≤ k → k ≤ n → k ≢ ρ → P k)
+      (forks : (v : ℕ) → n < v → v ≤ length tree → All P (descendants tree v) → P v) where
+    here : (k : ℕ) → 1 ≤ k → k ≤ length tree → k ≢ ρ → All P (descendants tree k) → P k
+    here k p q r h = go (decLe k n)
+      where
+        go : Dec (k ≤ n) → P k
+        go (yes l) = taxa k p l r
+        go (no l) = forks k (omega arith) q h
+
+    mutual
+      up-tree : (t : Rose) → Fits (descendants tree) t → 1 ≤ top t → top t ≤ length tree → top t ≢ ρ → P (top t)
+      up-tree (tip k) h p q r = here k p q r (subst (All P) (sym h) tt)
+      up-tree (node k f) h p q r =
+          here k p q r
+          (subst (All P) (h .0) (up-trees k p f (h .1) (subst (All (Descends tree k)) (sym (h .0)) (each-descends tree k))))
+
+      up-trees : (v : ℕ) → 1 ≤ v → (f : Roses) → AllFit (descendants tree) f → All (Descends tree v) (tops f) → All P (tops f)
+      up-trees v p (one t) h d = (up-tree t h (d .0 .some) (d .0 .most) (not-root v p (top t) (d .0)), tt)
+      up-trees v p (more t f) h d =
+          (up-tree t (h .0) (d .0 .some) (d .0 .most) (not-root v p (top t) (d .0)), up-trees v p f (h .1) (d .1))
+
+    pub upward : (v : ℕ) → 1 ≤ v → v ≤ length tree → v ≢ ρ → P v
+    upward v p q r =
+        let (t, h, e) = grown v in
+        subst P e (up-tree t h (omega arith) (omega arith) (λ z. r (sym e ∙ z)))

@@ -22,7 +22,7 @@ module _ (K : Kind) (entry entry′ : ℕ → K .Region) (size size′ : ℕ →
   abbrev pub Alike : ℕ → Type 0
   Alike k = (entry′ k ≡ entry k) × (size′ k ≡ size k)
 
-  all-alike : (ks : List ℕ) → All Alike ks → (map entry′ ks ≡ map entry ks) × (sum size′ ks ≡ sum size ks)
+  pub all-alike : (ks : List ℕ) → All Alike ks → (map entry′ ks ≡ map entry ks) × (sum size′ ks ≡ sum size ks)
   all-alike [] h = (refl, refl)
   all-alike (k ∷ ks) h =
       let r = all-alike ks (h .1) in

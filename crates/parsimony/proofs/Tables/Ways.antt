@@ -59,7 +59,7 @@ module _ (K : Kind) (laws : Laws K) (cell : ℕ → K .Region) (T : Tree) where
   open IsTree is-tree using (some, taxon, leaf, stem, more, fork)
 
   -- a node without descendants is a taxon
-  childless : (k : ℕ) → k ≤ length tree → descendants tree k ≡ [] → k ≤ n
+  pub childless : (k : ℕ) → k ≤ length tree → descendants tree k ≡ [] → k ≤ n
   childless k l e = go (decLe k n)
     where
       go : Dec (k ≤ n) → k ≤ n

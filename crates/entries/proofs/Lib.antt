@@ -1,0 +1,3 @@
+-- The searches for a bad entry, one entry after the other.
+-- Assumes nothing.
+pub mod Searching

@@ -1,0 +1,3 @@
+-- Which kept entries no pass leaves.
+-- Assumes nothing.
+pub mod Entries

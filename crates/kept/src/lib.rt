@@ -1,0 +1,230 @@
+// The kept table: build it, correct a cell, and ask it for the tree's length or for one character.
+use checks::Admission;
+use checks::Lent;
+use corrections::Count;
+use refusals::Refusal;
+use refusals::wide;
+use tallies::Length;
+ghost use Prim.Native.Nat.{ℕ, _≤_};
+ghost use Rattle.kept.specs.Kept.{Builds, Corrects, HasLengths, AnswersKept};
+ghost use Rattle.kept.specs.Steps.{LendsTable, Wanted};
+
+// The table is built, or a refusal.
+pub enum Built {
+    Done,
+    Refused(Refusal),
+}
+
+// The three slices of the table, before the others: which is the first that has not (n - 2) c entries.
+fn lend_table(n: usize, c: usize, third: usize, fourth: usize, fifth: usize, others: Lent) -> Lent
+    requires { ⌜ (3 ≤ n) × (n ≤ 256) × (c ≤ 512) ⌝ }
+    ensures { λ r. ⌜ LendsTable n c third fourth fifth others r ⌝ }
+{
+    let asked = (n - 2) * c;
+    let from5 = checks::lend(5, fifth, asked, others);
+    let from4 = checks::lend(4, fourth, asked, from5);
+    checks::lend(3, third, asked, from4)
+}
+
+// ---- build
+
+// Builds the kept table: each entry gets its meaning. Refusals, in this order: 1, 2, 3 to 6, and 7 in all cells. A refusal changes nothing.
+pub fn build(
+    n: usize,
+    c: usize,
+    tree: &[u16],
+    matrix: &[u16],
+    lows: &mut [u16],
+    highs: &mut [u16],
+    lengths: &mut [u32],
+) -> Built
+    ensures { λ r. ⌜ Builds n c (now (tree .entry)) (now (matrix .entry))
+        (record { lows = now (lows .entry); highs = now (highs .entry); lengths = now (lengths .entry) })
+        (record { lows = now (lows .exit); highs = now (highs .exit); lengths = now (lengths .exit) }) r ⌝ }
+{
+    if checks::outside(n, c) {
+        return Built::Refused(Refusal {
+            number: 1,
+            place: 0,
+        });
+    }
+    let from3 = lend_table(n, c, lows.len(), highs.len(), lengths.len(), Lent::Exact);
+    let from2 = checks::lend(2, matrix.len(), n * c, from3);
+    let from1 = checks::lend(1, tree.len(), 2 * n - 2, from2);
+    let admission = checks::admit_matrix(n, c, tree, matrix, from1);
+    match admission {
+        Admission::Refused(refusal) => Built::Refused(refusal),
+        Admission::Admitted(root, top) => {
+            tables::fill_table(
+                n,
+                c,
+                wide(root),
+                wide(top),
+                tree,
+                matrix,
+                lows,
+                highs,
+                lengths,
+            );
+            Built::Done
+        }
+    }
+}
+
+// ---- correct one cell
+
+// The character, if there is such a taxon, and else 0, which is no character.
+fn wanted(n: usize, taxon: usize, character: usize) -> usize
+    ensures { λ r. ⌜ Wanted n taxon character r ⌝ }
+{
+    if taxon < 1 {
+        return 0;
+    }
+    if n < taxon {
+        return 0;
+    }
+    character
+}
+
+// Corrects one cell: the cell is written and, for its character, the entries of the interior nodes between its taxon and the root, and nothing else.
+// The answer is how many these are. Refusals, in this order: 1, 2, 3 to 6, 8, 7 in the character's cells, 9, and 10 in the interior descendants, off the
+// path, of the nodes that are written. A refusal changes nothing.
+pub fn correct(
+    n: usize,
+    c: usize,
+    taxon: usize,
+    character: usize,
+    state: u16,
+    tree: &[u16],
+    matrix: &mut [u16],
+    lows: &mut [u16],
+    highs: &mut [u16],
+    lengths: &mut [u32],
+) -> Count
+    ensures { λ r. ⌜ Corrects n c taxon character state (now (tree .entry)) (now (matrix .entry))
+        (record { lows = now (lows .entry); highs = now (highs .entry); lengths = now (lengths .entry) })
+        (now (matrix .exit))
+        (record { lows = now (lows .exit); highs = now (highs .exit); lengths = now (lengths .exit) }) r ⌝ }
+{
+    if checks::outside(n, c) {
+        return Count::Refused(Refusal {
+            number: 1,
+            place: 0,
+        });
+    }
+    let from3 = lend_table(n, c, lows.len(), highs.len(), lengths.len(), Lent::Exact);
+    let from2 = checks::lend(2, matrix.len(), n * c, from3);
+    let from1 = checks::lend(1, tree.len(), 2 * n - 2, from2);
+    let looked = wanted(n, taxon, character);
+    let admission = checks::admit_character(n, c, looked, tree, matrix, from1);
+    match admission {
+        Admission::Refused(refusal) => Count::Refused(refusal),
+        Admission::Admitted(_, _) => corrections::correct_in(
+            n,
+            c,
+            taxon,
+            character,
+            state,
+            tree,
+            matrix,
+            lows,
+            highs,
+            lengths,
+        ),
+    }
+}
+
+// ---- the kept tree length
+
+// The tree's length, from the kept table. Refusals, in this order: 1, 2, 3 to 6, 7 in all cells, and 10 in all entries.
+pub fn kept_length(
+    n: usize,
+    c: usize,
+    tree: &[u16],
+    matrix: &[u16],
+    lows: &[u16],
+    highs: &[u16],
+    lengths: &[u32],
+) -> Length
+    ensures { λ r. ⌜ HasLengths n c (now (tree .entry)) (now (matrix .entry))
+        (record { lows = now (lows .entry); highs = now (highs .entry); lengths = now (lengths .entry) }) r ⌝ }
+{
+    if checks::outside(n, c) {
+        return Length::Refused(Refusal {
+            number: 1,
+            place: 0,
+        });
+    }
+    let from3 = lend_table(n, c, lows.len(), highs.len(), lengths.len(), Lent::Exact);
+    let from2 = checks::lend(2, matrix.len(), n * c, from3);
+    let from1 = checks::lend(1, tree.len(), 2 * n - 2, from2);
+    let admission = checks::admit_matrix(n, c, tree, matrix, from1);
+    match admission {
+        Admission::Refused(refusal) => Length::Refused(refusal),
+        Admission::Admitted(root, top) => tallies::sum_or(
+            n,
+            c,
+            wide(root),
+            wide(top),
+            matrix,
+            lows,
+            highs,
+            lengths,
+        ),
+    }
+}
+
+// ---- one kept character
+
+// One character's length and final ranges, from the kept table. Refusals, in this order: 1, 2, 3 to 6, 8, 7 in the character's cells, and 10 in its entries.
+// A refusal changes nothing.
+pub fn kept_character(
+    n: usize,
+    c: usize,
+    character: usize,
+    tree: &[u16],
+    matrix: &[u16],
+    lows: &[u16],
+    highs: &[u16],
+    lengths: &[u32],
+    final_lows: &mut [u16],
+    final_highs: &mut [u16],
+) -> Length
+    ensures { λ r. ⌜ AnswersKept n c character (now (tree .entry)) (now (matrix .entry))
+        (record { lows = now (lows .entry); highs = now (highs .entry); lengths = now (lengths .entry) })
+        (now («final_lows» .entry)) (now («final_highs» .entry)) (now («final_lows» .exit)) (now («final_highs» .exit)) r ⌝ }
+{
+    if checks::outside(n, c) {
+        return Length::Refused(Refusal {
+            number: 1,
+            place: 0,
+        });
+    }
+    let from7 = checks::lend(7, final_highs.len(), n - 2, Lent::Exact);
+    let from6 = checks::lend(6, final_lows.len(), n - 2, from7);
+    let from3 = lend_table(n, c, lows.len(), highs.len(), lengths.len(), from6);
+    let from2 = checks::lend(2, matrix.len(), n * c, from3);
+    let from1 = checks::lend(1, tree.len(), 2 * n - 2, from2);
+    let admission = checks::admit_character(n, c, character, tree, matrix, from1);
+    match admission {
+        Admission::Refused(refusal) => Length::Refused(refusal),
+        Admission::Admitted(root, top) => {
+            let start = (character - 1) * (n - 2);
+            let end = start + (n - 2);
+            readings::read_or(
+                n,
+                c,
+                character,
+                root,
+                top,
+                tree,
+                matrix,
+                &lows[start..end],
+                &highs[start..end],
+                &lengths[start..end],
+                final_lows,
+                final_highs,
+            )
+        }
+    }
+}

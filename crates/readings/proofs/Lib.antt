@@ -1,0 +1,3 @@
+-- What the steps ask and leave (Reading).
+-- Assumes nothing.
+mod Reading

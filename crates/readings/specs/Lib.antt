@@ -1,0 +1,3 @@
+-- One kept character.
+-- Assumes nothing.
+pub mod Readings

@@ -1,0 +1,3 @@
+-- Lengths from kept entries.
+-- Assumes nothing.
+pub mod Tallies
