@@ -10,7 +10,8 @@ use Rattle.choices.specs.declared.Resolve.the-variants.{Deltran}
 use Rattle.characters.specs.declared.Scores.{Scores}
 use Rattle.characters.specs.declared.Answer.{Answer}
 use Rattle.characters.specs.declared.Answer.the-variants as answer
-use Rattle.answers.specs.Coded.{limit, code, Gives, resolveOf}
+use Rattle.answers.specs.Coded as reply
+use Rattle.answers.specs.Coded.{limit, code, Gives, Reply, coded, Tells, resolveOf}
 
 -- ---- the number and the place, from one number
 
@@ -38,6 +39,21 @@ module _ (before after : List ℕ) (r : ℕ) where
   pub above : (a : Answer) → Gives a before after r → limit ≤ r → a ≡ answer.Refused (said r)
   above (answer.Scores s) G l = let z : ⊥ = omega (arith, G .value, G .fits) in absurd z
   above (answer.Refused q) G l = ap answer.Refused (said-code q (G .fits) ∙ ap said (sym (G .value)))
+
+-- ---- a call without scores
+
+module _ (r : ℕ) where
+  pub reply-below : (a : Reply) → Tells a r → ((q : Refusal) → a ≡ reply.refused q → 1 ≤ q .number) → r < limit → a ≡ reply.number r
+  reply-below (reply.number k) S n l = ap reply.number (sym (S .value))
+  reply-below (reply.refused q) S n l = let z : ⊥ = omega (arith, S .value, n q refl) in absurd z
+
+  pub reply-above : (a : Reply) → Tells a r → limit ≤ r → a ≡ reply.refused (said r)
+  reply-above (reply.number k) S l = let z : ⊥ = omega (arith, S .value, S .fits) in absurd z
+  reply-above (reply.refused q) S l = ap reply.refused (said-code q (S .fits) ∙ ap said (sym (S .value)))
+
+-- a reply is told by one number
+pub same-told : (a a′ : Reply) (r r′ : ℕ) → a ≡ a′ → Tells a r → Tells a′ r′ → r ≡ r′
+same-told a a′ r r′ e S S′ = S .value ∙ ap coded e ∙ sym (S′ .value)
 
 -- ---- the choice
 

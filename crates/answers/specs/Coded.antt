@@ -1,4 +1,5 @@
--- An answer in C's way: for each case of the enum one 64-bit number, and what the slice of seven numbers holds.
+-- An answer in C's way: for each case of the enum one 64-bit number, and what the slice of seven numbers holds. A call that has no scores has a reply,
+-- a number or a refusal.
 -- Assumes nothing.
 use mathlib.Core.Path.{_≡_}
 use mathlib.Core.List.{List, [], _∷_}
@@ -53,6 +54,29 @@ pub record Gives (a : Answer) (before after : List ℕ) (r : ℕ) : Type 0 where
   pub fits : Fits a
   pub value : r ≡ value a
   pub results : after ≡ results a before
+
+-- ---- a call without scores
+
+-- what it answers: a number, or a refusal
+pub data Reply : Type 0 where
+  number : ℕ → Reply
+  refused : Refusal → Reply
+
+abbrev pub coded : Reply → ℕ
+coded (number k) = k
+coded (refused q) = code q
+
+-- a number and a place are below 2^32
+abbrev pub Small : Reply → Type 0
+Small (number k) = k < 4294967296
+Small (refused q) = q .place < 4294967296
+
+-- a caller is told this reply
+pub record Tells (a : Reply) (r : ℕ) : Type 0 where
+  pub fits : Small a
+  pub value : r ≡ coded a
+
+-- ---- the choice
 
 -- 0 is ACCTRAN, any other number DELTRAN
 abbrev pub resolveOf : ℕ → Resolve

@@ -18,8 +18,8 @@ pub fn code(refusal: Refusal) -> u64
     refusal.number as u64 * 4294967296 + refusal.place as u64
 }
 
-// A length as one number.
-fn longer(length: u32) -> u64
+// A length or a count as one number.
+pub fn longer(length: u32) -> u64
     ensures { λ r. ⌜ (r ≡ length) × (length < limit) ⌝ }
 {
     length as u64

@@ -4,13 +4,21 @@ use answers::code;
 use answers::give;
 use answers::resolve_of;
 use checks::Lent;
+use kept_answers::give_built;
+use kept_answers::give_count;
+use kept_answers::give_length;
 use refusals::Refusal;
+use sheet_answers::give_report;
+use sheet_answers::give_sheet;
+use sheet_answers::refuse_sheet;
 ghost use mathlib.Core.Path.{_≡_};
 ghost use mathlib.Core.Logic.{_≢_};
 ghost use mathlib.Core.List.{[], _∷_, _++_};
 ghost use Rattle.refusals.specs.Checks.{Refuses};
 ghost use Rattle.characters.specs.Afresh.{six};
 ghost use Rattle.editions.specs.Outcomes.{sevenSlice, lastWrong, sizeChecks, lent, TreeOutcome, CharacterOutcome};
+ghost use Rattle.editions.specs.Kept.{BuildOutcome, CorrectOutcome, LengthOutcome, KeptOutcome};
+ghost use Rattle.editions.specs.Sheets.{SheetOutcome, ReportOutcome};
 
 // ---- a result slice of the wrong length: it is the last of the slices
 
@@ -70,7 +78,7 @@ fn refuse_character(
     refuse_last(from1, 9)
 }
 
-// ---- the functions
+// ---- afresh
 
 // All characters afresh: `characters::all_characters`.
 #[no_mangle]
@@ -158,4 +166,140 @@ pub extern "C" fn badrumello_character(
         states,
     );
     give(answer, result)
+}
+
+// ---- the kept table
+
+// Builds the table: `kept::build`.
+#[no_mangle]
+pub extern "C" fn badrumello_build(
+    n: usize,
+    c: usize,
+    tree: &[u16],
+    matrix: &[u16],
+    low: &mut [u16],
+    high: &mut [u16],
+    lengths: &mut [u32],
+) -> u64
+    ensures { λ r. ⌜ BuildOutcome n c (now (tree .entry)) (now (matrix .entry))
+        (record { lows = now (low .entry); highs = now (high .entry); lengths = now (lengths .entry) })
+        (record { lows = now (low .exit); highs = now (high .exit); lengths = now (lengths .exit) }) r ⌝ }
+{
+    let built = kept::build(n, c, tree, matrix, low, high, lengths);
+    give_built(built)
+}
+
+// Corrects one cell: `kept::correct`.
+#[no_mangle]
+pub extern "C" fn badrumello_correct(
+    n: usize,
+    c: usize,
+    taxon: usize,
+    character: usize,
+    state: u16,
+    tree: &[u16],
+    matrix: &mut [u16],
+    low: &mut [u16],
+    high: &mut [u16],
+    lengths: &mut [u32],
+) -> u64
+    ensures { λ r. ⌜ CorrectOutcome n c taxon character state (now (tree .entry)) (now (matrix .entry))
+        (record { lows = now (low .entry); highs = now (high .entry); lengths = now (lengths .entry) })
+        (now (matrix .exit))
+        (record { lows = now (low .exit); highs = now (high .exit); lengths = now (lengths .exit) }) r ⌝ }
+{
+    let count = kept::correct(
+        n,
+        c,
+        taxon,
+        character,
+        state,
+        tree,
+        matrix,
+        low,
+        high,
+        lengths,
+    );
+    give_count(count)
+}
+
+// The tree's length: `kept::kept_length`.
+#[no_mangle]
+pub extern "C" fn badrumello_kept_length(
+    n: usize,
+    c: usize,
+    tree: &[u16],
+    matrix: &[u16],
+    low: &[u16],
+    high: &[u16],
+    lengths: &[u32],
+) -> u64
+    ensures { λ r. ⌜ LengthOutcome n c (now (tree .entry)) (now (matrix .entry))
+        (record { lows = now (low .entry); highs = now (high .entry); lengths = now (lengths .entry) }) r ⌝ }
+{
+    let length = kept::kept_length(n, c, tree, matrix, low, high, lengths);
+    give_length(length)
+}
+
+// One character's length and final ranges: `kept::kept_character`.
+#[no_mangle]
+pub extern "C" fn badrumello_kept_character(
+    n: usize,
+    c: usize,
+    character: usize,
+    tree: &[u16],
+    matrix: &[u16],
+    low: &[u16],
+    high: &[u16],
+    lengths: &[u32],
+    final_low: &mut [u16],
+    final_high: &mut [u16],
+) -> u64
+    ensures { λ r. ⌜ KeptOutcome n c character (now (tree .entry)) (now (matrix .entry))
+        (record { lows = now (low .entry); highs = now (high .entry); lengths = now (lengths .entry) })
+        (now («final_low» .entry)) (now («final_high» .entry)) (now («final_low» .exit)) (now («final_high» .exit)) r ⌝ }
+{
+    let length = kept::kept_character(
+        n,
+        c,
+        character,
+        tree,
+        matrix,
+        low,
+        high,
+        lengths,
+        final_low,
+        final_high,
+    );
+    give_length(length)
+}
+
+// ---- sheets and reports
+
+// Reads a sheet: `sheets::read_sheet`.
+#[no_mangle]
+pub extern "C" fn badrumello_read_sheet(
+    text: &[u8],
+    tree: &mut [u16],
+    matrix: &mut [u16],
+    result: &mut [u32],
+) -> u64
+    ensures { λ r. ⌜ SheetOutcome (now (text .entry)) (now (tree .entry)) (now (matrix .entry)) (now (result .entry))
+        (now (tree .exit)) (now (matrix .exit)) (now (result .exit)) r ⌝ }
+{
+    if result.len() != 3 {
+        let refusal = refuse_sheet(tree.len(), matrix.len(), result.len());
+        return code(refusal);
+    }
+    let answer = sheets::read_sheet(text, tree, matrix);
+    give_sheet(answer, result)
+}
+
+// The report of a sheet: `reports::report`.
+#[no_mangle]
+pub extern "C" fn badrumello_report(text: &[u8], out: &mut [u8]) -> u64
+    ensures { λ r. ⌜ ReportOutcome (now (text .entry)) (now (out .entry)) (now (out .exit)) r ⌝ }
+{
+    let answer = reports::report(text, out);
+    give_report(answer)
 }
