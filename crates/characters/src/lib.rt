@@ -234,7 +234,7 @@ fn score_one(
 }
 
 // The six slices of results: which is the first that has not an entry for each interior node.
-fn lend_results(
+pub fn lend_results(
     n: usize,
     third: usize,
     fourth: usize,

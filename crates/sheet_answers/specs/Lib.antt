@@ -1,0 +1,3 @@
+-- What the calls about sheets reply to a C caller.
+-- Assumes nothing.
+pub mod Replies

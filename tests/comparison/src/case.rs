@@ -1,0 +1,475 @@
+//! A call with everything it is lent; what the library and the independent implementation make of it.
+use badrumello::{lent, raw};
+use independent::{calls, coded, sheets};
+use std::fmt;
+use std::mem::MaybeUninit;
+
+/// Which C function, and its numbers.
+#[derive(Clone, Copy, Debug, PartialEq, Eq)]
+pub enum Call {
+    Character { n: u64, c: u64, character: u64, resolve: u8 },
+    Tree { n: u64, c: u64 },
+    Build { n: u64, c: u64 },
+    Correct { n: u64, c: u64, taxon: u64, character: u64, state: u16 },
+    KeptLength { n: u64, c: u64 },
+    KeptCharacter { n: u64, c: u64, character: u64 },
+    ReadSheet,
+    Report,
+}
+
+impl Call {
+    pub fn name(&self) -> &'static str {
+        match self {
+            Call::Character { .. } => "character",
+            Call::Tree { .. } => "tree",
+            Call::Build { .. } => "build",
+            Call::Correct { .. } => "correct",
+            Call::KeptLength { .. } => "kept_length",
+            Call::KeptCharacter { .. } => "kept_character",
+            Call::ReadSheet => "read_sheet",
+            Call::Report => "report",
+        }
+    }
+}
+
+/// Every slice that a call may be lent. Those it is not lent are empty.
+#[derive(Clone, Default, PartialEq, Eq)]
+pub struct Buffers {
+    pub text: Vec<u8>,
+    pub tree: Vec<u16>,
+    pub matrix: Vec<u16>,
+    pub first_low: Vec<u16>,
+    pub first_high: Vec<u16>,
+    pub subtree: Vec<u32>,
+    pub final_low: Vec<u16>,
+    pub final_high: Vec<u16>,
+    pub states: Vec<u16>,
+    pub low: Vec<u16>,
+    pub high: Vec<u16>,
+    pub lengths: Vec<u32>,
+    pub result: Vec<u32>,
+    pub out: Vec<u8>,
+}
+
+/// The start of a list, and how long it is.
+struct Start<'a, T>(&'a [T]);
+
+impl<T: fmt::Debug> fmt::Debug for Start<'_, T> {
+    fn fmt(&self, out: &mut fmt::Formatter<'_>) -> fmt::Result {
+        let shown = &self.0[..self.0.len().min(400)];
+        write!(out, "{shown:?}")?;
+        if shown.len() < self.0.len() { write!(out, " and more, {} in all", self.0.len()) } else { Ok(()) }
+    }
+}
+
+impl fmt::Debug for Buffers {
+    fn fmt(&self, out: &mut fmt::Formatter<'_>) -> fmt::Result {
+        if !self.text.is_empty() {
+            let text = self.text[..self.text.len().min(2000)].escape_ascii();
+            writeln!(out, "  text ({} bytes): \"{text}\"", self.text.len())?;
+        }
+        for (name, list) in [
+            ("tree", &self.tree),
+            ("matrix", &self.matrix),
+            ("first_low", &self.first_low),
+            ("first_high", &self.first_high),
+            ("final_low", &self.final_low),
+            ("final_high", &self.final_high),
+            ("states", &self.states),
+            ("low", &self.low),
+            ("high", &self.high),
+        ] {
+            if !list.is_empty() {
+                writeln!(out, "  {name}: {:?}", Start(list))?;
+            }
+        }
+        for (name, list) in [("subtree", &self.subtree), ("lengths", &self.lengths), ("result", &self.result)] {
+            if !list.is_empty() {
+                writeln!(out, "  {name}: {:?}", Start(list))?;
+            }
+        }
+        if !self.out.is_empty() {
+            let end = self.out.iter().position(|&byte| byte == UNTOUCHED).unwrap_or(self.out.len()).min(4000);
+            writeln!(out, "  out ({} bytes): \"{}\"", self.out.len(), self.out[..end].escape_ascii())?;
+        }
+        Ok(())
+    }
+}
+
+/// What out slices hold before a call: no byte of a report.
+pub const UNTOUCHED: u8 = 0xA5;
+
+/// A call and what it is lent.
+#[derive(Clone)]
+pub struct Case {
+    pub call: Call,
+    pub lent: Buffers,
+}
+
+/// How slices are laid into memory.
+#[derive(Clone, Copy, PartialEq, Eq)]
+pub enum Memory {
+    /// Between fences of known elements, which are looked at after the call.
+    Fenced,
+    /// Each in an allocation of exactly its size, for valgrind.
+    Exact,
+    /// The same, and slices that a call only writes are lent without a value, so that valgrind notices if one is used before it is written.
+    Blank,
+}
+
+const FENCE: usize = 24;
+
+/// One slice in memory.
+struct Laid<T> {
+    store: Vec<MaybeUninit<T>>,
+    fence: usize,
+    blank: bool,
+}
+
+impl<T: Copy + PartialEq> Laid<T> {
+    fn new(values: &[T], fill: T, memory: Memory, only_written: bool) -> Laid<T> {
+        let fence = if memory == Memory::Fenced { FENCE } else { 0 };
+        let blank = memory == Memory::Blank && only_written;
+        let mut store = Vec::with_capacity(values.len() + 2 * fence);
+        store.extend(std::iter::repeat_n(MaybeUninit::new(fill), fence));
+        if blank {
+            // SAFETY: the elements need no value, and there is room for them. (A list of `MaybeUninit::uninit()` would do in Rust, but the compiler may
+            // give it values, and then valgrind would see nothing.)
+            unsafe { store.set_len(values.len()) };
+        } else {
+            store.extend(values.iter().map(|&value| MaybeUninit::new(value)));
+        }
+        store.extend(std::iter::repeat_n(MaybeUninit::new(fill), fence));
+        Laid { store, fence, blank }
+    }
+
+    fn len(&self) -> usize {
+        self.store.len() - 2 * self.fence
+    }
+
+    fn pointer(&mut self) -> *mut T {
+        self.store[self.fence..].as_mut_ptr().cast()
+    }
+
+    /// The slice after the call. Of one that had no value, the first `written` elements.
+    fn after(&self, values: &mut [T], fill: T, written: usize) -> Result<(), String> {
+        // SAFETY: an element of a fence has a value, and so has every element of a slice that was not blank; of one that was, those that the call says
+        // it has written (and if it has not, that is what valgrind is to find).
+        let read = |one: &MaybeUninit<T>| unsafe { one.assume_init() };
+        let end = self.store.len() - self.fence;
+        let fences = self.store[..self.fence].iter().chain(&self.store[end..]);
+        if fences.map(read).any(|element| element != fill) {
+            return Err("something beside a slice was written".to_string());
+        }
+        let taken = if self.blank { written.min(self.len()) } else { self.len() };
+        for (value, one) in values.iter_mut().zip(&self.store[self.fence..end]).take(taken) {
+            *value = read(one);
+        }
+        Ok(())
+    }
+}
+
+impl Case {
+    /// What document 01 says: the number, and the slices after the call.
+    pub fn expected(&self) -> (u64, Buffers) {
+        let mut lent = self.lent.clone();
+        let b = &mut lent;
+        let answer = match self.call {
+            Call::Character { n, c, character, resolve } => {
+                let found = calls::Found {
+                    first_low: &mut b.first_low,
+                    first_high: &mut b.first_high,
+                    subtree: &mut b.subtree,
+                    final_low: &mut b.final_low,
+                    final_high: &mut b.final_high,
+                    states: &mut b.states,
+                };
+                calls::character(n, c, character, resolve != 0, &b.tree, &b.matrix, found, &mut b.result)
+            }
+            Call::Tree { n, c } => calls::tree(n, c, &b.tree, &b.matrix, &mut b.result),
+            Call::Build { n, c } => calls::build(n, c, &b.tree, &b.matrix, &mut b.low, &mut b.high, &mut b.lengths),
+            Call::Correct { n, c, taxon, character, state } => {
+                calls::correct(n, c, taxon, character, state, &b.tree, &mut b.matrix, &mut b.low, &mut b.high, &mut b.lengths)
+            }
+            Call::KeptLength { n, c } => calls::kept_length(n, c, &b.tree, &b.matrix, &b.low, &b.high, &b.lengths),
+            Call::KeptCharacter { n, c, character } => {
+                calls::kept_character(n, c, character, &b.tree, &b.matrix, &b.low, &b.high, &b.lengths, &mut b.final_low, &mut b.final_high)
+            }
+            Call::ReadSheet => sheets::read_sheet(&b.text, &mut b.tree, &mut b.matrix, &mut b.result),
+            Call::Report => sheets::report(&b.text, &mut b.out),
+        };
+        (coded(answer), lent)
+    }
+
+    /// What the library's C function answers, and the slices after the call.
+    pub fn library(&self, memory: Memory) -> Result<(u64, Buffers), String> {
+        let mut lent = self.lent.clone();
+        let b = &mut lent;
+        let words = |values: &[u16], only_written: bool| Laid::new(values, 0xBEEF, memory, only_written);
+        let longs = |values: &[u32], only_written: bool| Laid::new(values, 0xDEAD_BEEF, memory, only_written);
+        let bytes = |values: &[u8], only_written: bool| Laid::new(values, 0x5A, memory, only_written);
+        let sheet = self.call == Call::ReadSheet;
+        let building = matches!(self.call, Call::Build { .. });
+        let mut text = bytes(&b.text, false);
+        let mut tree = words(&b.tree, sheet);
+        let mut matrix = words(&b.matrix, sheet);
+        let mut first_low = words(&b.first_low, true);
+        let mut first_high = words(&b.first_high, true);
+        let mut subtree = longs(&b.subtree, true);
+        let mut final_low = words(&b.final_low, true);
+        let mut final_high = words(&b.final_high, true);
+        let mut states = words(&b.states, true);
+        let mut low = words(&b.low, building);
+        let mut high = words(&b.high, building);
+        let mut lengths = longs(&b.lengths, building);
+        let mut result = longs(&b.result, true);
+        let mut out = bytes(&b.out, true);
+        // SAFETY: each slice is an allocation, or a part of one, of its own.
+        let value = unsafe {
+            match self.call {
+                Call::Character { n, c, character, resolve } => raw::badrumello_character(
+                    n,
+                    c,
+                    character,
+                    resolve,
+                    tree.pointer(),
+                    tree.len(),
+                    matrix.pointer(),
+                    matrix.len(),
+                    first_low.pointer(),
+                    first_low.len(),
+                    first_high.pointer(),
+                    first_high.len(),
+                    subtree.pointer(),
+                    subtree.len(),
+                    final_low.pointer(),
+                    final_low.len(),
+                    final_high.pointer(),
+                    final_high.len(),
+                    states.pointer(),
+                    states.len(),
+                    result.pointer(),
+                    result.len(),
+                ),
+                Call::Tree { n, c } => {
+                    raw::badrumello_tree(n, c, tree.pointer(), tree.len(), matrix.pointer(), matrix.len(), result.pointer(), result.len())
+                }
+                Call::Build { n, c } => raw::badrumello_build(
+                    n,
+                    c,
+                    tree.pointer(),
+                    tree.len(),
+                    matrix.pointer(),
+                    matrix.len(),
+                    low.pointer(),
+                    low.len(),
+                    high.pointer(),
+                    high.len(),
+                    lengths.pointer(),
+                    lengths.len(),
+                ),
+                Call::Correct { n, c, taxon, character, state } => raw::badrumello_correct(
+                    n,
+                    c,
+                    taxon,
+                    character,
+                    state,
+                    tree.pointer(),
+                    tree.len(),
+                    matrix.pointer(),
+                    matrix.len(),
+                    low.pointer(),
+                    low.len(),
+                    high.pointer(),
+                    high.len(),
+                    lengths.pointer(),
+                    lengths.len(),
+                ),
+                Call::KeptLength { n, c } => raw::badrumello_kept_length(
+                    n,
+                    c,
+                    tree.pointer(),
+                    tree.len(),
+                    matrix.pointer(),
+                    matrix.len(),
+                    low.pointer(),
+                    low.len(),
+                    high.pointer(),
+                    high.len(),
+                    lengths.pointer(),
+                    lengths.len(),
+                ),
+                Call::KeptCharacter { n, c, character } => raw::badrumello_kept_character(
+                    n,
+                    c,
+                    character,
+                    tree.pointer(),
+                    tree.len(),
+                    matrix.pointer(),
+                    matrix.len(),
+                    low.pointer(),
+                    low.len(),
+                    high.pointer(),
+                    high.len(),
+                    lengths.pointer(),
+                    lengths.len(),
+                    final_low.pointer(),
+                    final_low.len(),
+                    final_high.pointer(),
+                    final_high.len(),
+                ),
+                Call::ReadSheet => raw::badrumello_read_sheet(
+                    text.pointer(),
+                    text.len(),
+                    tree.pointer(),
+                    tree.len(),
+                    matrix.pointer(),
+                    matrix.len(),
+                    result.pointer(),
+                    result.len(),
+                ),
+                Call::Report => raw::badrumello_report(text.pointer(), text.len(), out.pointer(), out.len()),
+            }
+        };
+        let accepted = value >> 32 == 0;
+        let all = |len: usize| if accepted { len } else { 0 };
+        text.after(&mut b.text, 0x5A, 0)?;
+        result.after(&mut b.result, 0xDEAD_BEEF, all(result.len()))?;
+        let (in_tree, in_matrix) = match (sheet && accepted, &b.result[..]) {
+            (true, &[n, c, _]) => ((2 * n as usize).saturating_sub(2), n as usize * c as usize),
+            _ => (0, 0),
+        };
+        tree.after(&mut b.tree, 0xBEEF, in_tree)?;
+        matrix.after(&mut b.matrix, 0xBEEF, in_matrix)?;
+        for (laid, values) in [
+            (&first_low, &mut b.first_low),
+            (&first_high, &mut b.first_high),
+            (&final_low, &mut b.final_low),
+            (&final_high, &mut b.final_high),
+            (&states, &mut b.states),
+            (&low, &mut b.low),
+            (&high, &mut b.high),
+        ] {
+            laid.after(values, 0xBEEF, all(laid.len()))?;
+        }
+        for (laid, values) in [(&subtree, &mut b.subtree), (&lengths, &mut b.lengths)] {
+            laid.after(values, 0xDEAD_BEEF, all(laid.len()))?;
+        }
+        out.after(&mut b.out, 0x5A, all(value as usize))?;
+        Ok((value, lent))
+    }
+
+    /// What the Rust binding answers, as the C function's number, and the slices after the call. None where the binding cannot say the case: its
+    /// result slice always has the right length, and its `resolve` is an enum.
+    pub fn binding(&self) -> Option<(u64, Buffers)> {
+        let mut lent = self.lent.clone();
+        let b = &mut lent;
+        let small = |number: u64| number as usize;
+        let seven = |scores: badrumello::Scores, result: &mut [u32]| {
+            let pair = |index| match index {
+                badrumello::Index::None => (0, 0),
+                badrumello::Index::Fraction { over, under } => (over, under),
+            };
+            let (ci, ri) = (pair(scores.ci), pair(scores.ri));
+            result.copy_from_slice(&[scores.length, scores.m, scores.g, ci.0, ci.1, ri.0, ri.1]);
+            scores.length
+        };
+        let answer = match self.call {
+            Call::Character { n, c, character, resolve } => {
+                if b.result.len() != 7 || resolve > 1 {
+                    return None;
+                }
+                let resolve = if resolve == 0 { badrumello::Resolve::Acctran } else { badrumello::Resolve::Deltran };
+                let found = lent::Found {
+                    first_low: &mut b.first_low,
+                    first_high: &mut b.first_high,
+                    subtree: &mut b.subtree,
+                    final_low: &mut b.final_low,
+                    final_high: &mut b.final_high,
+                    states: &mut b.states,
+                };
+                lent::character(small(n), small(c), small(character), resolve, &b.tree, &b.matrix, found).map(|scores| seven(scores, &mut b.result))
+            }
+            Call::Tree { n, c } => {
+                if b.result.len() != 7 {
+                    return None;
+                }
+                lent::tree(small(n), small(c), &b.tree, &b.matrix).map(|scores| seven(scores, &mut b.result))
+            }
+            Call::Build { n, c } => lent::build(small(n), small(c), &b.tree, &b.matrix, &mut b.low, &mut b.high, &mut b.lengths).map(|()| 0),
+            Call::Correct { n, c, taxon, character, state } => lent::correct(
+                small(n),
+                small(c),
+                small(taxon),
+                small(character),
+                state,
+                &b.tree,
+                &mut b.matrix,
+                &mut b.low,
+                &mut b.high,
+                &mut b.lengths,
+            )
+            .map(|count| count as u32),
+            Call::KeptLength { n, c } => lent::kept_length(small(n), small(c), &b.tree, &b.matrix, &b.low, &b.high, &b.lengths),
+            Call::KeptCharacter { n, c, character } => lent::kept_character(
+                small(n),
+                small(c),
+                small(character),
+                &b.tree,
+                &b.matrix,
+                &b.low,
+                &b.high,
+                &b.lengths,
+                &mut b.final_low,
+                &mut b.final_high,
+            ),
+            Call::ReadSheet => {
+                if b.result.len() != 3 {
+                    return None;
+                }
+                lent::read_sheet(&b.text, &mut b.tree, &mut b.matrix).map(|head| {
+                    b.result.copy_from_slice(&[head.n as u32, head.c as u32, (head.resolve == badrumello::Resolve::Deltran).into()]);
+                    0
+                })
+            }
+            Call::Report => lent::report(&b.text, &mut b.out).map(|bytes| bytes as u32),
+        };
+        let value = match answer {
+            Ok(number) => number.into(),
+            Err(refusal) => u64::from(refusal.number) << 32 | u64::from(refusal.place),
+        };
+        Some((value, lent))
+    }
+
+    /// Compares library and binding with what document 01 says: the number and the slices after the call, or a text that says what differs.
+    pub fn compare(&self, memory: Memory) -> Result<(u64, Buffers), String> {
+        let expected = self.expected();
+        let library = self.library(memory).map_err(|fault| format!("{fault}\n{:?}\n{:?}", self.call, self.lent))?;
+        if library != expected {
+            return Err(self.differ("the library", library, expected));
+        }
+        if memory == Memory::Fenced
+            && let Some(binding) = self.binding()
+            && binding != expected
+        {
+            return Err(self.differ("the binding", binding, expected));
+        }
+        Ok(expected)
+    }
+
+    fn differ(&self, who: &str, has: (u64, Buffers), expected: (u64, Buffers)) -> String {
+        let say = |value: u64| match value >> 32 {
+            0 => format!("{value}"),
+            number => format!("refusal {number} at {}", value as u32),
+        };
+        format!(
+            "{who} answers {} where {} is expected\n{:?}\nbefore:\n{:?}{who} after:\n{:?}expected after:\n{:?}",
+            say(has.0),
+            say(expected.0),
+            self.call,
+            self.lent,
+            has.1,
+            expected.1
+        )
+    }
+}

@@ -1,0 +1,5 @@
+//! The library against an independent implementation of document 01: cases of every call, made from seeds.
+pub mod case;
+pub mod groups;
+pub mod inputs;
+pub mod random;
