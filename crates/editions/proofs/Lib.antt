@@ -4,5 +4,6 @@
 pub mod Lasts
 pub mod Sheeting
 pub mod Unique
+pub mod UniqueKept
 pub mod UniqueSheets
 pub mod Reading
