@@ -10,12 +10,13 @@ import pathlib
 import sys
 
 from cases_characters import characters
+from cases_kept import kept
 from cases_sheets import sheets
 from cases_trees import trees
 
 ROOT = pathlib.Path(__file__).resolve().parent.parent
 
-MAKERS = {"run_trees": trees, "run_characters": characters, "run_sheets": sheets}
+MAKERS = {"run_trees": trees, "run_characters": characters, "run_sheets": sheets, "run_kept": kept}
 
 
 def main():

@@ -1,14 +1,16 @@
--- The cell of a taxon and a character is one of the matrix.
+-- The cell of a taxon and a character is one of the matrix; and where no cell is above 9999, no state is.
 -- Assumes nothing.
 use mathlib.Core.Path.{_≡_, ap}
 use mathlib.Core.List.{List}
 use Prim.Native.Nat.{ℕ, _+_, _-_, _*_, _≤_, _<_}
 use native.Mathlib.Nat.{mul-le-mul-right}
+use native.Mathlib.Decide.{decLe}
 use native.Mathlib.Omega.{arith}
 use lib.ListN.{length, getD}
-use Rattle.parsimony.specs.Matrix.{stateOf}
+use Rattle.parsimony.specs.Matrix.{cellNumber, stateOf}
 use Rattle.parsimony.proofs.Matrices.{cell-in}
-use Rattle.cells.specs.Above.{InMatrix}
+use Rattle.refusals.specs.Search.{Never}
+use Rattle.cells.specs.Above.{InMatrix, AboveAt, AboveIn}
 
 pub cell-place : (c j t : ℕ) (matrix : List ℕ) → InMatrix c j t matrix → (t - 1) * c + (j - 1) < length matrix
 cell-place c j t matrix M =
@@ -23,3 +25,19 @@ in-matrix n c j t matrix some most rows taxon l =
   where
     rest : t * c ≤ n * c
     rest = mul-le-mul-right c l
+
+-- ---- states up to 9999
+
+module _ (n c j : ℕ) (matrix : List ℕ) where
+  -- no state of a character is above 9999 where no cell is
+  pub none-above : 1 ≤ j → j ≤ c → Never (AboveAt matrix) (n * c) → Never (AboveIn matrix c j) n
+  none-above a b N t p q h =
+      N (cellNumber c t j) (omega arith) (omega (arith, cell-in n c (t - 1) (j - 1) (omega arith) (omega arith))) h
+
+  -- and one that is not above 9999 is at most 9999
+  pub states-small : Never (AboveIn matrix c j) n → (k : ℕ) → 1 ≤ k → k ≤ n → stateOf matrix c j k ≤ 9999
+  states-small N k p q = go (decLe (stateOf matrix c j k) 9999)
+    where
+      go : Dec (stateOf matrix c j k ≤ 9999) → stateOf matrix c j k ≤ 9999
+      go (yes l) = l
+      go (no l) = absurd (N k p q (omega arith))

@@ -2,8 +2,7 @@
 -- Assumes nothing.
 use mathlib.Core.Path.{_≡_, refl, sym, _∙_, subst}
 use mathlib.Core.List.{List, [], _∷_}
-use Prim.Native.Nat.{ℕ, _+_, _-_, _*_, _≤_, _<_}
-use native.Mathlib.Decide.{decLe}
+use Prim.Native.Nat.{ℕ, _-_, _*_, _≤_}
 use native.Mathlib.Omega.{arith}
 use lib.ListN.{length}
 use Rattle.parsimony.specs.Table.{Accepted}
@@ -13,8 +12,8 @@ use Rattle.refusals.specs.Search.{Never}
 use Rattle.refusals.specs.Checks.{Refuses, Passes, slices, Slice}
 use Rattle.parsimony.specs.Lists.{sum, from}
 use Rattle.parsimony.specs.Index as index
-use Rattle.parsimony.proofs.Matrices.{cell-in}
-use Rattle.cells.specs.Above.{AboveAt, AboveIn}
+use Rattle.cells.specs.Above.{AboveAt}
+use Rattle.cells.proofs.Reading.{none-above, states-small}
 use Rattle.indices.proofs.Most.{m-most}
 use Rattle.totals.specs.Totals.{Small, Given, HasLength}
 use Rattle.checks.specs.declared.Lent.{Lent}
@@ -41,14 +40,6 @@ results-long n r (a, (b, (d, (e, (f, (g, z)))))) =
       states = exact-clear 8 (length (r .states)) (n - 2) g;
     }
 
--- a state that is not above 9999
-pub small : (n : ℕ) (matrix : List ℕ) (c j : ℕ) → Never (AboveIn matrix c j) n → (k : ℕ) → 1 ≤ k → k ≤ n → stateOf matrix c j k ≤ 9999
-small n matrix c j N k p q = go (decLe (stateOf matrix c j k) 9999)
-  where
-    go : Dec (stateOf matrix c j k ≤ 9999) → stateOf matrix c j k ≤ 9999
-    go (yes l) = l
-    go (no l) = absurd (N k p q (omega arith))
-
 module _ (n c j : ℕ) (tree matrix : List ℕ) (before : Results) (L : InLimits n c) (told : Lent)
     (t : Told 1 (lentSlices n c tree matrix (resultSlices n before)) told) where
   pub one-refused : (r : Refusal) → AdmitsCharacter n c j tree matrix told (Refused r)
@@ -64,7 +55,7 @@ module _ (n c j : ℕ) (tree matrix : List ℕ) (before : Results) (L : InLimits
           some = A .2 .some;
           most = A .2 .most;
           rows = admissible n c tree matrix (resultSlices n before) L told t .exact (A .0) .1;
-          small = small n matrix c j (A .2 .small);
+          small = states-small n c j matrix (A .2 .small);
           long = results-long n before (rest-passes n c tree matrix (resultSlices n before) L told t (A .0));
         }
 
@@ -81,16 +72,9 @@ module _ (n c j : ℕ) (tree matrix : List ℕ) (before : Results) (L : InLimits
 
 -- ---- all characters
 
--- a cell that is not above 9999
+-- no state of any character is above 9999
 all-small : (n : ℕ) (matrix : List ℕ) (c : ℕ) → Never (AboveAt matrix) (n * c) → Small n c matrix
-all-small n matrix c N j k a b p q = go (decLe (stateOf matrix c j k) 9999)
-  where
-    cell : (k - 1) * c + j ≤ n * c
-    cell = omega (arith, cell-in n c (k - 1) (j - 1) (omega arith) (omega arith))
-
-    go : Dec (stateOf matrix c j k ≤ 9999) → stateOf matrix c j k ≤ 9999
-    go (yes l) = l
-    go (no l) = absurd (N ((k - 1) * c + j) (omega arith) cell (omega arith))
+all-small n matrix c N j k a b = states-small n c j matrix (none-above n c j matrix a b N) k
 
 -- an accepted tree and its matrix, whatever other slices there are
 pub given-all : (n c : ℕ) (tree matrix : List ℕ) (rest : List Slice) (L : InLimits n c) (told : Lent)

@@ -6,12 +6,12 @@ use mathlib.Core.Logic.{_≢_}
 use mathlib.Core.List.{List, [], _∷_}
 use Prim.Native.Nat.{ℕ, _-_, _*_, _≤_, _<_}
 use lib.ListN.{length, getD, set}
-use Rattle.parsimony.specs.Table.{Accepted}
+use Rattle.parsimony.specs.Table.{between, Accepted}
 use Rattle.parsimony.specs.Matrix.{cellNumber, stateOf}
 use Rattle.refusals.specs.Search.{Never}
 use Rattle.refusals.specs.Checks.{Check, at, Refuses, Passes}
 use Rattle.trees.specs.Answers.{Sized}
-use Rattle.shapes.specs.Shape.{between, pathOf}
+use Rattle.shapes.specs.Shape.{pathOf}
 use Rattle.tables.specs.Tables.{stretch, TableLong}
 use Rattle.entries.specs.Entries.{BadBeside, besideEntries, OneCharacter}
 use Rattle.mending.specs.Mending as mending

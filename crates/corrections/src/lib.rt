@@ -47,8 +47,8 @@ fn write_path(
     lengths: &mut [u32],
 )
     requires { ⌜ Mends n c taxon character state count (now tree) (now path) (now matrix) (now lows) (now highs) (now lengths) ⌝ }
-    ensures { λ _. ⌜ Mended n c taxon character state (now (tree .entry)) (now (matrix .entry)) (now (lows .entry)) (now (highs .entry)) (now (lengths .entry))
-        (now (matrix .exit)) (now (lows .exit)) (now (highs .exit)) (now (lengths .exit)) ⌝ }
+    ensures { λ _. ⌜ Mended n c taxon character state (now (tree .entry)) (now (matrix .entry))
+        (now (lows .entry)) (now (highs .entry)) (now (lengths .entry)) (now (matrix .exit)) (now (lows .exit)) (now (highs .exit)) (now (lengths .exit)) ⌝ }
 {
     let mut left = [0u16; 254];
     let mut right = [0u16; 254];
@@ -85,8 +85,8 @@ fn correct_character(
     lengths: &mut [u32],
 ) -> Count
     requires { ⌜ Correctable n c taxon character (now tree) (now matrix) (now lows) (now highs) (now lengths) ⌝ }
-    ensures { λ r. ⌜ Corrects n c taxon character state (now (tree .entry)) (now (matrix .entry)) (now (lows .entry)) (now (highs .entry)) (now (lengths .entry))
-        (now (matrix .exit)) (now (lows .exit)) (now (highs .exit)) (now (lengths .exit)) r ⌝ }
+    ensures { λ r. ⌜ Corrects n c taxon character state (now (tree .entry)) (now (matrix .entry))
+        (now (lows .entry)) (now (highs .entry)) (now (lengths .entry)) (now (matrix .exit)) (now (lows .exit)) (now (highs .exit)) (now (lengths .exit)) r ⌝ }
 {
     if 9999 < state {
         return Count::Refused(Refusal {
@@ -134,8 +134,8 @@ pub fn correct_in(
     lengths: &mut [u32],
 ) -> Count
     requires { ⌜ CorrectableIn n c taxon character (now tree) (now matrix) (now lows) (now highs) (now lengths) ⌝ }
-    ensures { λ r. ⌜ CorrectsIn n c taxon character state (now (tree .entry)) (now (matrix .entry)) (now (lows .entry)) (now (highs .entry)) (now (lengths .entry))
-        (now (matrix .exit)) (now (lows .exit)) (now (highs .exit)) (now (lengths .exit)) r ⌝ }
+    ensures { λ r. ⌜ CorrectsIn n c taxon character state (now (tree .entry)) (now (matrix .entry))
+        (now (lows .entry)) (now (highs .entry)) (now (lengths .entry)) (now (matrix .exit)) (now (lows .exit)) (now (highs .exit)) (now (lengths .exit)) r ⌝ }
 {
     let start = (character - 1) * (n - 2);
     let end = start + (n - 2);

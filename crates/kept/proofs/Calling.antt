@@ -47,7 +47,8 @@ use Rattle.checks.proofs.Orders.{
   matrix-inside,
   sized,
 }
-use Rattle.characters.proofs.Calling.{small, given-all}
+use Rattle.cells.proofs.Reading.{states-small}
+use Rattle.characters.proofs.Calling.{given-all}
 use Rattle.tables.specs.Tables.{stretch, TableLong}
 use Rattle.entries.specs.Entries.{AllCharacters, characterEntries, allEntries}
 use Rattle.entries.proofs.Searching as searching
@@ -219,7 +220,7 @@ module _ (n c t j s : ℕ) (tree matrix : List ℕ) (T : Table) (L : InLimits n 
           character = character;
           few = L .few;
           rows = admissible n c tree matrix (tableSlices n c T) L told m .exact (A .0) .1;
-          small = subst (λ x. (k : ℕ) → 1 ≤ k → k ≤ n → stateOf matrix c x k ≤ 9999) this (small n matrix c w (A .2 .small));
+          small = subst (λ x. (k : ℕ) → 1 ≤ k → k ≤ n → stateOf matrix c x k ≤ 9999) this (states-small n c w matrix (A .2 .small));
           long = table-long n c T [] (rest-passes n c tree matrix (tableSlices n c T) L told m (A .0)) .0;
         }
 
@@ -313,7 +314,7 @@ module _ (n c j : ℕ) (tree matrix : List ℕ) (T : Table) (lows highs : List �
           accepted = A .1;
           character = (A .2 .some, A .2 .most);
           rows = admissible n c tree matrix (keptSlices n c T lows highs) L told m .exact (A .0) .1;
-          small = small n matrix c j (A .2 .small);
+          small = states-small n c j matrix (A .2 .small);
           lists = searching.one-character n c (T .lows) (T .highs) (T .lengths) all (j - 1) last q e;
           low-room = exact-clear 6 (length lows) (n - 2) low;
           high-room = exact-clear 7 (length highs) (n - 2) high;

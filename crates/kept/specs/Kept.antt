@@ -6,10 +6,9 @@ use mathlib.Core.List.{List, [], _∷_, _++_}
 use Prim.Native.Nat.{ℕ, _-_, _*_, _≤_, _<_}
 use lib.ListN.{length}
 use Rattle.parsimony.specs.Lists.{sum, from}
-use Rattle.parsimony.specs.Table.{Accepted}
+use Rattle.parsimony.specs.Table.{between, Accepted}
 use Rattle.refusals.specs.Checks.{Check, at, Refuses, Passes, Slice, slices}
 use Rattle.trees.specs.Answers.{treeFaults}
-use Rattle.shapes.specs.Shape.{between}
 use Rattle.checks.specs.Calls.{Outside, NoCharacter, characterCell, nodeSlice, lentSlices, characterChecks, matrixChecks}
 use Rattle.tables.specs.Tables.{stretch, TableLong, TableMeans}
 use Rattle.entries.specs.Entries.{characterEntries, allEntries}
@@ -37,6 +36,7 @@ abbrev pub three : (n c a b d : ℕ) → List Slice
 three n c a b d =
     record { has = a; asked = (n - 2) * c } ∷ record { has = b; asked = (n - 2) * c } ∷ record { has = d; asked = (n - 2) * c } ∷ []
 
+-- and those of a table
 abbrev pub tableSlices : (n c : ℕ) → Table → List Slice
 tableSlices n c T = three n c (length (T .lows)) (length (T .highs)) (length (T .lengths))
 

@@ -22,12 +22,12 @@ use Rattle.parsimony.proofs.Tables.Mending.{Alike, stays-settled}
 use Rattle.parsimony.proofs.Tables.Trees.{Tree, steps-below}
 use Rattle.parsimony.proofs.Ranges.Joins.{join-high, cost-high}
 use Rattle.shapes.specs.Shape.{Filled, pathOf}
-use Rattle.shapes.proofs.Paths.{path-short, path-at, path-all}
+use Rattle.shapes.proofs.Paths.{path-short, path-at}
 use Rattle.shapes.proofs.Subtrees as subtrees
 use Rattle.descents.specs.Descents.{Readable}
 use Rattle.mending.proofs.Climbs as climbs
 use Rattle.mending.proofs.Turns.{MendedTo}
-use Rattle.mending.specs.Mending.{Sound, SameAt, Mended, MendsNode, MendedNode, MendsPath}
+use Rattle.mending.specs.Mending.{Sound, SameAt, MendsNode, MendedNode, MendsPath}
 
 module _ (n c j t count : ℕ) (tree matrix left right path lows₀ highs₀ lengths₀ : List ℕ)
     (M : MendsPath n c j t count tree matrix left right path lows₀ highs₀ lengths₀) where
@@ -59,42 +59,8 @@ module _ (n c j t count : ℕ) (tree matrix left right path lows₀ highs₀ len
   step-is : (i : ℕ) → i < count → getD path i 0 ≡ step i
   step-is i l = M .lists i l ∙ path-at T t i (omega (arith, M .counts)) .0
 
-  -- ---- the path
-
   abbrev MendedBy : (i : ℕ) (lows highs lengths : List ℕ) → Type 0
   MendedBy = MendedTo n c j t count tree matrix lows₀ highs₀ lengths₀
-
-  pub mended-none : MendedBy 0 lows₀ highs₀ lengths₀
-  mended-none =
-      record {
-        turns = omega arith;
-        low-long = M .low-long;
-        high-long = M .high-long;
-        length-long = M .length-long;
-        others = λ u lo hi h. (refl, refl, refl);
-        settled = λ h l. absurd (omega arith);
-        fits = λ h l. absurd (omega arith);
-        small = λ h l. absurd (omega arith);
-        short = λ h l. absurd (omega arith);
-      }
-
-  pub mended-all : (i : ℕ) (lows highs lengths : List ℕ) → MendedBy i lows highs lengths → count ≤ i
-      → Mended n c j t tree matrix lows₀ highs₀ lengths₀ lows highs lengths
-  mended-all i lows highs lengths D l =
-      record {
-        low-long = D .low-long;
-        high-long = D .high-long;
-        length-long = D .length-long;
-        off = λ v lo hi z. D .others v lo hi (λ h m e. not-below v h (omega (arith, D .turns)) e z);
-        on = λ v lo hi z. let (h, m, e) = path-all T t v lo z in
-            subst (Settled ordered tree (ranges n state lows highs) (sizes n state lengths)) e (D .settled h (omega (arith, M .counts)));
-        fits = λ v lo hi z. let (h, m, e) = path-all T t v lo z in
-            subst (λ u. atNode n lows u ≤ atNode n highs u) e (D .fits h (omega (arith, M .counts)));
-      }
-    where
-      not-below : (v h : ℕ) → h < count → step h ≡ v → below tree v t ≡ 0 → ⊥
-      not-below v h m e z =
-          omega (arith, steps-below T v t h (omega (arith, step-inner h m, e)) e)
 
   -- ---- one node more
 

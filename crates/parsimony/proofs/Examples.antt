@@ -1,23 +1,23 @@
 -- The worked examples: one list, and one claim that holds over it.
 --     Claims      what an example is, and what it claims
+--     Entries     a test of a tree table and of the entries of a first pass that is computed, and what holds where it passes
 --     Checking    a test of an example that is computed, and that the claim holds where it passes
--- P10 and P11, two corrections, join the list with the kept table.
 -- Assumes nothing.
 use mathlib.Core.Path.{_≡_, refl}
 use mathlib.Core.List.{List, [], _∷_}
-use Prim.Native.Nat.{ℕ, _-_}
+use Prim.Native.Nat.{_-_}
 use native.Mathlib.Decide.{ℕ-discrete, decLe}
-use lib.Dec.{T}
 use lib.ListN.{getD}
-use Rattle.parsimony.specs.Lists.{without}
+use Rattle.parsimony.specs.Lists.{same, without}
 use Rattle.parsimony.specs.Table.{having}
 use Rattle.parsimony.specs.Ordered.{insert, sorted, ordered}
 use Rattle.parsimony.specs.Way.{lengthOf}
 use Rattle.parsimony.specs.Character.{wayOf}
 use Rattle.parsimony.specs.Index.{fraction, none}
 pub mod Claims
+mod Entries
 mod Checking
-use Claims.{Character, Example, joins, scores, AllHold}
+use Claims.{Character, Correction, Example, joins, scores, corrects, AllHold}
 use Checking.{all-hold, aboveBy, sameIndex}
 
 -- the handout of document 01, with its two characters
@@ -63,6 +63,34 @@ handout-2 =
       g′ = 2;
       ci′ = fraction 1 2;
       ri′ = fraction 0 1;
+    }
+
+-- its first character with the state 3 at taxon 4, whose way to the root has both interior nodes
+taxon-4 : Correction
+taxon-4 =
+    record {
+      before = handout-1;
+      taxon = 4;
+      state = 3;
+      lows = 3 ∷ 1 ∷ [];
+      highs = 3 ∷ 3 ∷ [];
+      lengths = 2 ∷ 2 ∷ [];
+      length′ = 5;
+      count = 2;
+    }
+
+-- and with the state 4 at taxon 1, the root: only the length changes
+taxon-1 : Correction
+taxon-1 =
+    record {
+      before = handout-1;
+      taxon = 1;
+      state = 4;
+      lows = 3 ∷ 1 ∷ [];
+      highs = 3 ∷ 5 ∷ [];
+      lengths = 4 ∷ 4 ∷ [];
+      length′ = 5;
+      count = 0;
     }
 
 -- three taxa that are all alike
@@ -111,7 +139,7 @@ figure-4 =
       ri′ = fraction 6 10;
     }
 
--- P1 to P9 and P12 of document 01 in its order; then document 01's neighbouring ranges, and the paper's own example
+-- P1 to P12 of document 01 in its order; then document 01's neighbouring ranges, and the paper's own example
 pub examples : List Example
 examples =
     joins 1 1 5 5 1 5 4
@@ -123,13 +151,15 @@ examples =
     ∷ joins 4 4 4 4 4 4 0
     ∷ scores handout-1
     ∷ scores handout-2
+    ∷ corrects taxon-4
+    ∷ corrects taxon-1
     ∷ scores alike
     ∷ joins 1 3 4 6 3 4 1
     ∷ scores figure-4
     ∷ []
 
 pub examples-hold : AllHold examples
-unfolding examples handout-1 handout-2 alike figure-4 insert sorted having without aboveBy sameIndex ℕ-discrete decLe
+unfolding examples handout-1 handout-2 taxon-4 taxon-1 alike figure-4 insert sorted having same without aboveBy sameIndex ℕ-discrete decLe
 examples-hold = all-hold examples tt
 
 -- "The choice 1,3 has length 9": on the handout's first character, a state of each final range taken by itself. The least length is 7.

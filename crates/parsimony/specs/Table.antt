@@ -4,10 +4,10 @@
 use mathlib.Core.Path.{_≡_}
 use mathlib.Core.Logic.{_≢_}
 use mathlib.Core.List.{List, [], _∷_}
-use Prim.Native.Nat.{ℕ, zero, suc, _+_, _≤_, _<_, min}
+use Prim.Native.Nat.{ℕ, zero, suc, _+_, _-_, _≤_, _<_, min}
 use native.Mathlib.Decide.{ℕ-discrete}
 use lib.ListN.{length, getD}
-use Rattle.parsimony.specs.Lists.{from, choose, same, without}
+use Rattle.parsimony.specs.Lists.{sum, from, choose, same, without}
 
 -- the ancestor of a node; 0 where there is none: of the root, of 0, and past the table
 abbrev pub ancestor : List ℕ → ℕ → ℕ
@@ -52,6 +52,10 @@ meets tree (suc s) v k = same v k + meets tree s v (ancestor tree k)
 -- In a tree, whoever climbs leaves the table in as many steps as there are nodes, and stands nowhere twice (`below-is` of proofs/Theorems.antt).
 abbrev pub below : List ℕ → ℕ → ℕ → ℕ
 below tree v k = meets tree (length tree) v (ancestor tree k)
+
+-- the number of interior nodes between a node and the root
+abbrev pub between : ℕ → List ℕ → ℕ → ℕ
+between n tree k = sum (λ v. below tree v k) (from (suc n) (length tree - n))
 
 -- The table is a tree of the taxa 1 to n: its root is the taxon ρ, the root's descendant is δ.
 pub record IsTree (n : ℕ) (tree : List ℕ) (ρ δ : ℕ) : Type 0 where

@@ -2,7 +2,7 @@
 -- Assumes nothing.
 use mathlib.Core.Path.{_≡_, refl, ap, subst}
 use mathlib.Core.Bool.{Bool, true, false}
-use Prim.Native.Nat.{ℕ, suc, _+_, _≤_, _<_}
+use Prim.Native.Nat.{ℕ, zero, suc, _+_, _≤_, _<_}
 use native.Mathlib.Decide.{ℕ-discrete, decLe}
 use native.Mathlib.Omega.{arith}
 use Rattle.refusals.specs.declared.Found.{Found}
@@ -22,6 +22,15 @@ module _ (P : ℕ → Type 0) where
 
   pub lowest-never : (m k : ℕ) → Lowest P m k → Never P m → ⊥
   lowest-never m k h n = n k (h .some) (h .most) (h .holds)
+
+  -- where there is no lowest, there is none
+  pub never-lowest : (m : ℕ) → ((k : ℕ) → Lowest P m k → ⊥) → Never P m
+  never-lowest m none k = below (suc k) k (omega arith)
+    where
+      below : (b k : ℕ) → k < b → 1 ≤ k → k ≤ m → P k → ⊥
+      below zero k l p q h = omega arith
+      below (suc b) k l p q h =
+          none k (record { some = p; most = q; holds = h; first = λ j a c. below b j (omega arith) a (omega arith) })
 
   pub finds-one : (m : ℕ) (r r′ : Found) → Finds P m r → Finds P m r′ → r ≡ r′
   finds-one m (At k) (At k′) h h′ = ap At (lowest-one m k k′ h h′)

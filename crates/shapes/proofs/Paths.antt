@@ -10,7 +10,7 @@ use native.Mathlib.Omega.{arith}
 use lib.ListN.{length, getD, set, length-set}
 use lib.Seq.{sets}
 use Rattle.parsimony.specs.Lists.{sum, from, choose, same}
-use Rattle.parsimony.specs.Table.{ancestor, descendants, climb, meets, below, IsTree, Accepted}
+use Rattle.parsimony.specs.Table.{ancestor, descendants, climb, meets, below, between, IsTree, Accepted}
 use Rattle.parsimony.proofs.Sums.{
   all-from,
   choose-yes,
@@ -27,7 +27,7 @@ use Rattle.parsimony.proofs.Sums.{
 use Rattle.parsimony.proofs.Tables.Descendants.{past-table, often-descendants}
 use Rattle.parsimony.proofs.Tables.Climbing.{climb-none, climb-add, climb-more, meets-none}
 use Rattle.parsimony.proofs.Tables.Trees.{Tree, out, meets-least, meets-all, below-steps}
-use Rattle.shapes.specs.Shape.{between, pathBy, pathOf}
+use Rattle.shapes.specs.Shape.{pathBy, pathOf}
 use Rattle.shapes.specs.Filling.{Pathable, IsPath}
 
 module _ (T : Tree) where

@@ -7,8 +7,8 @@ use native.Mathlib.Decide.{decLe}
 use lib.ListN.{length, getD, set}
 use lib.Seq.{sets}
 use Rattle.parsimony.specs.Lists.{choose}
-use Rattle.parsimony.specs.Table.{ancestor, descendants, Accepted}
-use Rattle.shapes.specs.Shape.{Filled, IsOrder, between, pathOf}
+use Rattle.parsimony.specs.Table.{ancestor, descendants, between, Accepted}
+use Rattle.shapes.specs.Shape.{Filled, IsOrder, pathOf}
 use Rattle.trees.specs.Answers.{Sized}
 
 -- what was there, or the node where nothing was

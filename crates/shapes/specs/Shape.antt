@@ -7,7 +7,7 @@ use Prim.Native.Nat.{ℕ, zero, suc, _+_, _-_, _≤_, _<_}
 use native.Mathlib.Decide.{decLe}
 use lib.ListN.{length, getD}
 use Rattle.parsimony.specs.Lists.{sum, from, choose}
-use Rattle.parsimony.specs.Table.{ancestor, descendants, meets, below}
+use Rattle.parsimony.specs.Table.{ancestor, descendants, meets}
 use Rattle.parsimony.specs.Character.{atNode}
 
 -- two lists have each interior node's two descendants, the lower one in the first; the node n + 1 comes first
@@ -29,10 +29,6 @@ under tree k v = meets tree (length tree) k v
 -- the number of interior nodes that are v or below v
 abbrev pub inside : ℕ → List ℕ → ℕ → ℕ
 inside n tree v = sum (under tree v) (from (suc n) (length tree - n))
-
--- the number of interior nodes between a node and the root
-abbrev pub between : ℕ → List ℕ → ℕ → ℕ
-between n tree k = sum (λ v. below tree v k) (from (suc n) (length tree - n))
 
 -- the interior nodes above k, from its ancestor up, s of them at the most
 unfoldable pub pathBy : ℕ → List ℕ → ℕ → ℕ → List ℕ

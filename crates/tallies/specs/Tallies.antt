@@ -26,10 +26,11 @@ abbrev pub lengthIn : (n c ρ δ : ℕ) (tree matrix lows highs lengths : List �
 lengthIn n c ρ δ tree matrix lows highs lengths j =
     lengthHere n c j ρ δ tree matrix (stretch (n - 2) lows j) (stretch (n - 2) highs j) (stretch (n - 2) lengths j)
 
--- r is that length, and the sum over all characters (it asks for the root and its descendant, and for nothing else of the tree)
+-- r is that length (it asks for the root and its descendant, and for nothing else of the tree)
 abbrev pub IsLength : (n c j ρ δ : ℕ) (matrix lows highs lengths : List ℕ) (r : ℕ) → Type 0
 IsLength n c j ρ δ matrix lows highs lengths r = (tree : List ℕ) → r ≡ lengthHere n c j ρ δ tree matrix lows highs lengths
 
+-- r is the sum over all characters
 abbrev pub IsTotal : (n c ρ δ : ℕ) (matrix lows highs lengths : List ℕ) (r : ℕ) → Type 0
 IsTotal n c ρ δ matrix lows highs lengths r = (tree : List ℕ) → r ≡ sum (lengthIn n c ρ δ tree matrix lows highs lengths) (from 1 c)
 

@@ -2,3 +2,5 @@
 -- Assumes nothing.
 mod Accepting
 pub mod Unique
+-- and that a table without a fault is accepted
+pub mod Faultless

@@ -29,6 +29,9 @@ start-of-else1 c = c .before .before .before .before .before .before
 abbrev start-of-path : tie.After-path → tie.Start
 start-of-path c = start-of-else1 (c .before)
 
+abbrev path2-of-known-told : tie.After-known-told → tie.After-path2
+path2-of-known-told c = path2-of-look-beside-arg3 (c .before .before .before .before)
+
 abbrev write-path-of-slice-known8 : tie.After-slice-known8 → tie.After-write-path
 write-path-of-slice-known8 c = c .before .before .before .before .before .before .before .before
 
@@ -103,7 +106,15 @@ enum-known-bad : tie.Need-enum-known-bad
 enum-known-bad c = search needs
 
 cast-t25 : tie.Need-cast-t25
-cast-t25 c = omega (arith, found-low (c .before) .most, (start-of-known-told c) .pre .sized .most)
+cast-t25 c =
+    omega (
+      arith,
+      found-low (c .before) .most,
+      (start-of-known-told c) .pre .sized .most,
+      count-few _ _ _ _ ((start-of-known-told c) .args .tree .now)
+          ((start-of-known-told c) .args .matrix .now) ((start-of-known-told c) .args .lows .now) ((start-of-known-told c) .args .highs .now)
+          ((start-of-known-told c) .args .lengths .now) ((start-of-known-told c) .pre) _ _ _ refl ((path2-of-known-told c) .path2 .ensures),
+    )
 
 same-length : tie.Need-same-length
 same-length c = search needs
@@ -139,6 +150,7 @@ cast-t37 c =
       count-few _ _ _ _ ((start-of-slice-known8 c) .args .tree .now) ((start-of-slice-known8 c) .args .matrix .now)
           ((start-of-slice-known8 c) .args .lows .now) ((start-of-slice-known8 c) .args .highs .now) ((start-of-slice-known8 c) .args .lengths .now)
           ((start-of-slice-known8 c) .pre) _ _ _ refl ((path2-of-slice-known8 c) .path2 .ensures),
+      (start-of-slice-known8 c) .pre .sized .most,
     )
 
 same-length-4 : tie.Need-same-length-4

@@ -6,7 +6,8 @@ use mathlib.Core.Path.{_≡_, refl, sym, _∙_, ap, subst}
 use Prim.Native.Nat.{ℕ, _+_, _-_, _*_, _≤_, _<_}
 use lib.ListN.{length}
 use Rattle.mending.proofs.Turns.{MendedTo}
-use Rattle.mending.proofs.Paths.{mended-none, mended-all, mends-at, mended-at, turn-place}
+use Rattle.mending.proofs.Ends.{mended-none, mended-all}
+use Rattle.mending.proofs.Paths.{mends-at, mended-at, turn-place}
 use Rattle.mending.proofs.mend_path.Statement.{statement}
 use Rattle.mending.proofs.mend_path.Tie as tie
 

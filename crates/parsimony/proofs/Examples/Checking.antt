@@ -1,124 +1,40 @@
 -- A test of an example that antt computes, and that the example's claim holds where the test passes. The test looks at each node by itself: the
--- table is a tree, the entries are settled, the second pass gives the final ranges, each state is the nearest; the theorems do the rest.
+-- entries are settled (Entries.antt), the second pass gives the final ranges, each state is the nearest; the theorems do the rest.
 -- Assumes nothing.
 use mathlib.Core.Path.{_≡_, refl, sym, _∙_, ap, ap₂, subst}
-use mathlib.Core.Logic.{_≢_}
 use mathlib.Core.Bool.{Bool, true, false, _&&_, _||_}
 use mathlib.Core.List.{List, [], _∷_, _++_, map}
-use Prim.Native.Nat.{ℕ, zero, suc, _+_, _-_, _≤_, _<_, min, max}
+use Prim.Native.Nat.{ℕ, zero, suc, _-_, _≤_, _<_, min, max}
 use native.Mathlib.Decide.{ℕ-discrete, decLe}
 use native.Mathlib.Omega.{arith}
 use lib.Dec.{T, eqb, leb, eqb→eq, leb→le}
-use lib.ListN.{length, getD}
-use lib.IntN.{ℤ, pos, negsuc}
-use Rattle.parsimony.specs.Lists.{sum, from, choose}
-use Rattle.parsimony.specs.Table.{ancestor, nodes, descendants, sisters, climb, IsTree, Accepted}
-use Rattle.parsimony.specs.Ordered.{Range, span, point, nearest, away, join, cost, ordered}
-use Rattle.parsimony.specs.Meaning.{LengthMeans}
-use Rattle.parsimony.specs.Steps.{Settled, FirstPass, SecondPass, final, Chosen}
-use Rattle.parsimony.specs.Character.{atNode, cells, ranges, sizes, wayOf, FirstMeans, FinalsMean}
+use lib.ListN.{length}
+use lib.IntN.{pos}
+use Rattle.parsimony.specs.Lists.{from, choose}
+use Rattle.parsimony.specs.Table.{ancestor, descendants, sisters, below, between, Accepted}
+use Rattle.parsimony.specs.Ordered.{Range, span, point, nearest, join, cost, ordered}
+use Rattle.parsimony.specs.Steps.{FirstPass, SecondPass, final, Chosen}
+use Rattle.parsimony.specs.Character.{atNode, cells, ranges, sizes, wayOf}
 use Rattle.parsimony.specs.Index.{Index, fraction, none, m, g, ci, ri}
 use Rattle.parsimony.proofs.Tests.{all, Each, all-each, or-else, every, every-at, sameRange, same-range}
-use Rattle.parsimony.proofs.Tables.Descendants.{past-table}
-use Rattle.parsimony.proofs.Tables.Reaching.{out-by-root}
 use Rattle.parsimony.proofs.Tables.Trees.{Tree}
-use Rattle.parsimony.proofs.Characters.{
-  nearest-point,
-  range-taxon,
-  range-inner,
-  way-taxon,
-  way-inner,
-  settles,
-  first-means,
-  lengthFrom,
-  length-least,
-  acctran-way,
-  finals-mean,
-  deltran-way,
+use Rattle.parsimony.proofs.Characters.{nearest-point, range-inner, way-taxon, way-inner, acctran-way, finals-mean, deltran-way}
+use Rattle.parsimony.proofs.Examples.Claims.{
+  Character,
+  stateIn,
+  Scored,
+  Correction,
+  stateAfter,
+  AsBefore,
+  Corrected,
+  Example,
+  joins,
+  scores,
+  corrects,
+  Holds,
+  AllHold,
 }
-use Rattle.parsimony.proofs.Examples.Claims.{Character, stateIn, Scored, Example, joins, scores, Holds, AllHold}
-
--- ---- a table is accepted
-
-module _ (n : ℕ) (tree : List ℕ) (ρ δ : ℕ) where
-  -- tests of the root, of any node, of a taxon, and of an interior node
-  abbrev rootTests : List Bool
-  rootTests =
-      leb 1 ρ ∷ leb ρ n ∷ leb (suc n) (length tree) ∷ eqb (ancestor tree ρ) 0
-      ∷ eqb (length (descendants tree ρ)) 1 ∷ eqb (getD (descendants tree ρ) 0 0) δ ∷ []
-
-  abbrev nodeTests : ℕ → List Bool
-  nodeTests k = (leb 1 (ancestor tree k) || eqb k ρ) ∷ leb (ancestor tree k) (length tree) ∷ eqb (climb tree (length tree) k) 0 ∷ []
-
-  abbrev taxonTest : ℕ → Bool
-  taxonTest k = eqb k ρ || eqb (length (descendants tree k)) 0
-
-  abbrev forkTest : ℕ → Bool
-  forkTest v = eqb (length (descendants tree v)) 2
-
-  abbrev treeTests : List Bool
-  treeTests =
-      all rootTests ∷ every (λ k. all (nodeTests k)) (nodes tree) ∷ every taxonTest (from 1 n)
-      ∷ every forkTest (from (suc n) (length tree - n)) ∷ []
-
-  module _ (passes : T (all treeTests)) where
-    tests : Each treeTests
-    tests = all-each treeTests passes
-
-    at-root : Each rootTests
-    at-root = all-each rootTests (tests .0)
-
-    at-node : (k : ℕ) → 1 ≤ k → k ≤ length tree → Each (nodeTests k)
-    at-node k p q = all-each (nodeTests k) (every-at (λ k. all (nodeTests k)) 1 (length tree) (tests .1 .0) k p (omega arith))
-
-    sole : (k : ℕ) → 1 ≤ k → k ≤ length tree → ancestor tree k ≡ 0 → k ≡ ρ
-    sole k p q e =
-        or-else (leb 1 (ancestor tree k)) (eqb k ρ)
-        (λ t. let z : ⊥ = omega (arith, leb→le 1 (ancestor tree k) t) in absurd z) (eqb→eq k ρ) (at-node k p q .0)
-
-    within : (k : ℕ) → ancestor tree k ≤ length tree
-    within zero = omega arith
-    within (suc i) = go (decLe (suc i) (length tree))
-      where
-        go : Dec (suc i ≤ length tree) → ancestor tree (suc i) ≤ length tree
-        go (yes q) = leb→le (ancestor tree (suc i)) (length tree) (at-node (suc i) (omega arith) q .1 .0)
-        go (no q) = omega (arith, past-table tree (suc i) (omega arith))
-
-    none-in : (ks : List ℕ) → length ks ≡ 0 → ks ≡ []
-    none-in [] h = refl
-    none-in (k ∷ ks) h = let z : ⊥ = omega arith in absurd z
-
-    one-in : (ks : List ℕ) → length ks ≡ 1 → ks ≡ getD ks 0 0 ∷ []
-    one-in [] h = let z : ⊥ = omega arith in absurd z
-    one-in (k ∷ []) h = refl
-    one-in (k ∷ j ∷ ks) h = let z : ⊥ = omega arith in absurd z
-
-    two-at : (v : ℕ) → n < v → v ≤ length tree → length (descendants tree v) ≡ 2
-    two-at v lo hi =
-        eqb→eq (length (descendants tree v)) 2 (every-at forkTest (suc n) (length tree - n) (tests .1 .1 .1 .0) v lo (omega arith))
-
-    accepted : Accepted n tree ρ δ
-    accepted =
-        record {
-          is-tree = record {
-            some = leb→le 1 ρ (at-root .0);
-            taxon = leb→le ρ n (at-root .1 .0);
-            root = eqb→eq (ancestor tree ρ) 0 (at-root .1 .1 .1 .0);
-            sole = sole;
-            more = leb→le (suc n) (length tree) (at-root .1 .1 .0);
-            within = within;
-            leaf = λ k p q r.
-                or-else (eqb k ρ) (eqb (length (descendants tree k)) 0) (λ t. absurd (r (eqb→eq k ρ t)))
-                (λ t. none-in (descendants tree k) (eqb→eq (length (descendants tree k)) 0 t))
-                (every-at taxonTest 1 n (tests .1 .1 .0) k p (omega arith));
-            stem = one-in (descendants tree ρ) (eqb→eq (length (descendants tree ρ)) 1 (at-root .1 .1 .1 .1 .0))
-                ∙ ap (λ d. d ∷ []) (eqb→eq (getD (descendants tree ρ) 0 0) δ (at-root .1 .1 .1 .1 .1 .0));
-            fork = λ v lo hi. omega (arith, two-at v lo hi);
-            reach = λ k p q.
-                out-by-root tree ρ sole within (length tree) k p q (eqb→eq (climb tree (length tree) k) 0 (at-node k p q .1 .1 .0));
-          };
-          two = two-at;
-        }
+use Rattle.parsimony.proofs.Examples.Entries.{treeTests, accepted, passTest, lengthTest, first-pass, first, least}
 
 -- ---- a character's numbers
 
@@ -146,9 +62,6 @@ module _ (c : Character) where
   abbrev entry : ℕ → Range
   entry = ranges n state lows highs
 
-  abbrev size : ℕ → ℕ
-  size = sizes n state lengths
-
   -- what a node sees from above, by going up s steps at the most
   unfoldable pub aboveBy : ℕ → ℕ → Range
   aboveBy zero v = point (state ρ)
@@ -159,12 +72,7 @@ module _ (c : Character) where
   abbrev above : ℕ → Range
   above v = aboveBy (length tree) v
 
-  -- the tests of an interior node: it is settled; it sees what it should; its final range is right; its states are nearest
-  abbrev settledTests : ℕ → List Bool
-  settledTests v =
-      sameRange (entry v) (join (map entry (descendants tree v)))
-      ∷ eqb (size v) (sum size (descendants tree v) + cost (map entry (descendants tree v))) ∷ leb (atNode n lows v) (atNode n highs v) ∷ []
-
+  -- the tests of an interior node: it sees what it should; its final range is right; its states are nearest
   abbrev aboveTest : ℕ → Bool
   aboveTest v = eqb v δ || sameRange (above v) (join (map entry (sisters tree v) ++ (above (ancestor tree v) ∷ [])))
 
@@ -184,13 +92,12 @@ module _ (c : Character) where
 
   abbrev forksTests : ℕ → List Bool
   forksTests v =
-      all (settledTests v) ∷ aboveTest v ∷ all (finalTests v) ∷ nearestTest lows highs acctran v
-      ∷ nearestTest final-lows final-highs deltran v ∷ []
+      aboveTest v ∷ all (finalTests v) ∷ nearestTest lows highs acctran v ∷ nearestTest final-lows final-highs deltran v ∷ []
 
   abbrev characterTests : List Bool
   characterTests =
-      all (treeTests n tree ρ δ) ∷ every (λ v. all (forksTests v)) (from (suc n) (length tree - n)) ∷ sameRange (above δ) (point (state ρ))
-      ∷ eqb (atNode n lengths δ + away (pos (state ρ)) (span (atNode n lows δ) (atNode n highs δ))) length′
+      all (treeTests n tree ρ δ) ∷ passTest n tree state lows highs lengths ∷ lengthTest n tree state lows highs lengths ρ δ length′
+      ∷ every (λ v. all (forksTests v)) (from (suc n) (length tree - n)) ∷ sameRange (above δ) (point (state ρ))
       ∷ eqb (m n state) m′ ∷ eqb (g n state ρ) g′ ∷ sameIndex (ci m′ length′) ci′ ∷ sameIndex (ri m′ length′ g′) ri′ ∷ []
 
   module _ (passes : T (all characterTests)) where
@@ -205,34 +112,26 @@ module _ (c : Character) where
 
     at-fork : (v : ℕ) → n < v → v ≤ length tree → Each (forksTests v)
     at-fork v lo hi =
-        all-each (forksTests v) (every-at (λ v. all (forksTests v)) (suc n) (length tree - n) (done .1 .0) v lo (omega arith))
+        all-each (forksTests v) (every-at (λ v. all (forksTests v)) (suc n) (length tree - n) (done .1 .1 .1 .0) v lo (omega arith))
 
-    first-pass : FirstPass ordered n (cells n state) tree entry size
-    first-pass = settles n state tree lows highs lengths settled
-      where
-        settled : (v : ℕ) → n < v → v ≤ length tree → Settled ordered tree entry size v
-        settled v lo hi =
-            let e = all-each (settledTests v) (at-fork v lo hi .0) in
-            record {
-              joined = same-range (entry v) (join (map entry (descendants tree v))) (e .0);
-              summed = eqb→eq (size v) (sum size (descendants tree v) + cost (map entry (descendants tree v))) (e .1 .0);
-            }
+    pass : FirstPass ordered n (cells n state) tree entry (sizes n state lengths)
+    pass = first-pass n tree state lows highs lengths (done .1 .0)
 
     second-pass : SecondPass ordered n (cells n state) tree ρ δ entry above
     second-pass =
         record {
-          top = same-range (above δ) (point (state ρ)) (done .1 .1 .0);
+          top = same-range (above δ) (point (state ρ)) (done .1 .1 .1 .1 .0);
           rest = λ v lo hi r.
               or-else (eqb v δ) (sameRange (above v) (join (map entry (sisters tree v) ++ (above (ancestor tree v) ∷ []))))
               (λ t. absurd (r (eqb→eq v δ t)))
-              (same-range (above v) (join (map entry (sisters tree v) ++ (above (ancestor tree v) ∷ [])))) (at-fork v lo hi .1 .0);
+              (same-range (above v) (join (map entry (sisters tree v) ++ (above (ancestor tree v) ∷ [])))) (at-fork v lo hi .0);
         }
 
     final-at : (v : ℕ) → n < v → v ≤ length tree
         → span (atNode n final-lows v) (atNode n final-highs v) ≡ final ordered n (cells n state) tree entry above v
     final-at v lo hi =
         same-range (span (atNode n final-lows v) (atNode n final-highs v)) (join (map entry (descendants tree v) ++ (above v ∷ [])))
-        (all-each (finalTests v) (at-fork v lo hi .1 .1 .0) .0)
+        (all-each (finalTests v) (at-fork v lo hi .1 .0) .0)
 
     -- states that pass the test are chosen
     chosen-by : (ls hs cs : List ℕ)
@@ -252,28 +151,81 @@ module _ (c : Character) where
 
     scored : Scored c
     scored =
-        let P = first-pass in
-        let A = chosen-by lows highs acctran (λ v lo hi. at-fork v lo hi .1 .1 .1 .0) in
-        let D = chosen-by final-lows final-highs deltran (λ v lo hi. at-fork v lo hi .1 .1 .1 .1 .0) in
+        let A = chosen-by lows highs acctran (λ v lo hi. at-fork v lo hi .1 .1 .0) in
+        let D = chosen-by final-lows final-highs deltran (λ v lo hi. at-fork v lo hi .1 .1 .1 .0) in
         record {
           accepted = is-accepted;
-          first = first-means whole state lows highs lengths P
-              (λ v lo hi. leb→le (atNode n lows v) (atNode n highs v) (all-each (settledTests v) (at-fork v lo hi .0) .1 .1 .0));
-          finals = finals-mean whole state lows highs lengths P above second-pass final-lows final-highs
-              (λ v lo hi. leb→le (atNode n final-lows v) (atNode n final-highs v) (all-each (finalTests v) (at-fork v lo hi .1 .1 .0) .1 .0))
+          first = first n tree state lows highs lengths (done .1 .0) ρ δ (is-accepted .is-tree);
+          finals = finals-mean whole state lows highs lengths pass above second-pass final-lows final-highs
+              (λ v lo hi. leb→le (atNode n final-lows v) (atNode n final-highs v) (all-each (finalTests v) (at-fork v lo hi .1 .0) .1 .0))
               final-at;
-          least = subst (LengthMeans ordered n (cells n state) tree)
-              (eqb→eq (atNode n lengths δ + away (pos (state ρ)) (span (atNode n lows δ) (atNode n highs δ))) length′ (done .1 .1 .1 .0))
-              (length-least whole state lows highs lengths P);
+          least = least n tree state lows highs lengths (done .1 .0) ρ δ (is-accepted .is-tree) length′ (done .1 .1 .0);
           acctran-chosen = A;
-          acctran-shortest = acctran-way whole state lows highs lengths P (wayOf n state acctran) (root-state acctran) A .0;
+          acctran-shortest = acctran-way whole state lows highs lengths pass (wayOf n state acctran) (root-state acctran) A .0;
           deltran-chosen = D;
-          deltran-shortest = deltran-way whole state lows highs lengths P above second-pass (ranges n state final-lows final-highs)
+          deltran-shortest = deltran-way whole state lows highs lengths pass above second-pass (ranges n state final-lows final-highs)
               (λ v lo hi. range-inner n state final-lows final-highs v lo ∙ final-at v lo hi) (wayOf n state deltran) (root-state deltran) D .0;
-          m-is = eqb→eq (m n state) m′ (done .1 .1 .1 .1 .0);
-          g-is = eqb→eq (g n state ρ) g′ (done .1 .1 .1 .1 .1 .0);
-          ci-is = same-index (ci m′ length′) ci′ (done .1 .1 .1 .1 .1 .1 .0);
-          ri-is = same-index (ri m′ length′ g′) ri′ (done .1 .1 .1 .1 .1 .1 .1 .0);
+          m-is = eqb→eq (m n state) m′ (done .1 .1 .1 .1 .1 .0);
+          g-is = eqb→eq (g n state ρ) g′ (done .1 .1 .1 .1 .1 .1 .0);
+          ci-is = same-index (ci m′ length′) ci′ (done .1 .1 .1 .1 .1 .1 .1 .0);
+          ri-is = same-index (ri m′ length′ g′) ri′ (done .1 .1 .1 .1 .1 .1 .1 .1 .0);
+        }
+
+-- ---- a correction's numbers
+
+module _ (c : Correction) where
+  open Correction c using (before, taxon, lows, highs, lengths, length′, count)
+  open Character before using (n, tree, ρ, δ, states)
+
+  abbrev sameTests : ℕ → List Bool
+  sameTests v =
+      eqb (atNode n lows v) (atNode n (before .lows) v) ∷ eqb (atNode n highs v) (atNode n (before .highs) v)
+      ∷ eqb (atNode n lengths v) (atNode n (before .lengths) v) ∷ []
+
+  -- the test of an interior node: the taxon is below it, or its entry is as before
+  abbrev keptTest : ℕ → Bool
+  keptTest v = leb 1 (below tree v taxon) || all (sameTests v)
+
+  abbrev correctionTests : List Bool
+  correctionTests =
+      all (treeTests n tree ρ δ) ∷ leb 1 taxon ∷ leb taxon n
+      ∷ passTest n tree (stateIn states) (before .lows) (before .highs) (before .lengths) ∷ passTest n tree (stateAfter c) lows highs lengths
+      ∷ lengthTest n tree (stateAfter c) lows highs lengths ρ δ length′ ∷ every keptTest (from (suc n) (length tree - n))
+      ∷ eqb (between n tree taxon) count ∷ []
+
+  module _ (passes : T (all correctionTests)) where
+    each : Each correctionTests
+    each = all-each correctionTests passes
+
+    tree-accepted : Accepted n tree ρ δ
+    tree-accepted = accepted n tree ρ δ (each .0)
+
+    as-before : (v : ℕ) → n < v → v ≤ length tree → below tree v taxon ≡ 0 → AsBefore c v
+    as-before v lo hi off =
+        or-else (leb 1 (below tree v taxon)) (all (sameTests v))
+        (λ t. let z : ⊥ = omega (arith, leb→le 1 (below tree v taxon) t) in absurd z) (λ t. same (all-each (sameTests v) t))
+        (every-at keptTest (suc n) (length tree - n) (each .1 .1 .1 .1 .1 .1 .0) v lo (omega arith))
+      where
+        same : Each (sameTests v) → AsBefore c v
+        same e = (
+          eqb→eq (atNode n lows v) (atNode n (before .lows) v) (e .0),
+          eqb→eq (atNode n highs v) (atNode n (before .highs) v) (e .1 .0),
+          eqb→eq (atNode n lengths v) (atNode n (before .lengths) v) (e .1 .1 .0),
+        )
+
+    corrected : Corrected c
+    corrected =
+        record {
+          accepted = tree-accepted;
+          some = leb→le 1 taxon (each .1 .0);
+          most = leb→le taxon n (each .1 .1 .0);
+          first-before = first n tree (stateIn states) (before .lows) (before .highs) (before .lengths) (each .1 .1 .1 .0) ρ δ
+              (tree-accepted .is-tree);
+          first = first n tree (stateAfter c) lows highs lengths (each .1 .1 .1 .1 .0) ρ δ (tree-accepted .is-tree);
+          least = least n tree (stateAfter c) lows highs lengths (each .1 .1 .1 .1 .0) ρ δ (tree-accepted .is-tree) length′
+              (each .1 .1 .1 .1 .1 .0);
+          kept = as-before;
+          count-is = eqb→eq (between n tree taxon) count (each .1 .1 .1 .1 .1 .1 .1 .0);
         }
 
 -- ---- all examples
@@ -282,6 +234,7 @@ abbrev pub test : Example → Bool
 test (joins a b c d low high cost′) =
     all (sameRange (join (span a b ∷ span c d ∷ [])) (span low high) ∷ eqb (cost (span a b ∷ span c d ∷ [])) cost′ ∷ [])
 test (scores c) = all (characterTests c)
+test (corrects c) = all (correctionTests c)
 
 holds : (e : Example) → T (test e) → Holds e
 holds (joins a b c d low high cost′) h =
@@ -290,6 +243,7 @@ holds (joins a b c d low high cost′) h =
       eqb→eq (cost (span a b ∷ span c d ∷ [])) cost′ (e .1 .0),
     )
 holds (scores c) h = scored c h
+holds (corrects c) h = corrected c h
 
 pub all-hold : (es : List Example) → T (all (map test es)) → AllHold es
 all-hold [] h = tt

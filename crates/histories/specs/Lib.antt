@@ -1,0 +1,3 @@
+-- Lists of corrections.
+-- Assumes nothing.
+pub mod Histories
