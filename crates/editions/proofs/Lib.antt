@@ -4,6 +4,7 @@
 pub mod Lasts
 pub mod Sheeting
 pub mod Unique
+pub mod UniqueKept
 pub mod UniqueSheets
 pub mod Reading
 pub mod ReadingKept
