@@ -43,13 +43,16 @@ module _ (before after : List ℕ) (r : ℕ) where
 -- ---- a call without scores
 
 module _ (r : ℕ) where
-  pub reply-below : (a : Reply) → Tells a r → ((q : Refusal) → a ≡ reply.refused q → 1 ≤ q .number) → r < limit → a ≡ reply.number r
-  reply-below (reply.number k) S n l = ap reply.number (sym (S .value))
-  reply-below (reply.refused q) S n l = let z : ⊥ = omega (arith, S .value, n q refl) in absurd z
+  -- below 2^32 no refusal is told, and from there on no number
+  pub not-refused-below : (q : Refusal) → Tells (reply.refused q) r → 1 ≤ q .number → r < limit → ⊥
+  not-refused-below q S n l = omega (arith, S .value, n)
 
-  pub reply-above : (a : Reply) → Tells a r → limit ≤ r → a ≡ reply.refused (said r)
-  reply-above (reply.number k) S l = let z : ⊥ = omega (arith, S .value, S .fits) in absurd z
-  reply-above (reply.refused q) S l = ap reply.refused (said-code q (S .fits) ∙ ap said (sym (S .value)))
+  pub no-number-above : (k : ℕ) → Tells (reply.number k) r → limit ≤ r → ⊥
+  no-number-above k S l = omega (arith, S .value, S .fits)
+
+  -- the refusal that is told
+  pub refusal-said : (q : Refusal) → Tells (reply.refused q) r → q ≡ said r
+  refusal-said q S = said-code q (S .fits) ∙ ap said (sym (S .value))
 
 -- a reply is told by one number
 pub same-told : (a a′ : Reply) (r r′ : ℕ) → a ≡ a′ → Tells a r → Tells a′ r′ → r ≡ r′

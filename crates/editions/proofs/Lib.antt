@@ -1,5 +1,5 @@
 -- The result slice as the last of the slices, of scores (Lasts) and of a sheet (Sheeting); each function has one outcome (Unique: afresh,
--- UniqueKept, UniqueSheets); and what a caller may conclude from the number (Reading).
+-- UniqueKept, UniqueSheets); and what a caller may conclude from the number (Reading: afresh, ReadingKept, ReadingSheets).
 -- Assumes nothing.
 pub mod Lasts
 pub mod Sheeting
@@ -7,3 +7,5 @@ pub mod Unique
 pub mod UniqueKept
 pub mod UniqueSheets
 pub mod Reading
+pub mod ReadingKept
+pub mod ReadingSheets

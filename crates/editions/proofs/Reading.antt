@@ -21,17 +21,21 @@ use Rattle.editions.specs.Outcomes.{sevenSlice, TreeAnswers, TreeOutcome
 
 -- ---- the number of a refusal is 1 or more
 
-abbrev Numbered : List {1} Check → Type 0
+abbrev pub Numbered : List {1} Check → Type 0
 Numbered [] = Unit {0}
 Numbered (c ∷ cs) = (1 ≤ c .number) × Numbered cs
 
-numbered : (cs : List {1} Check) → Numbered cs → (q : Refusal) → Refuses cs q → 1 ≤ q .number
+pub numbered : (cs : List {1} Check) → Numbered cs → (q : Refusal) → Refuses cs q → 1 ≤ q .number
 numbered (c ∷ cs) (n, ns) q (inl (e, h)) = omega (arith, e, n)
 numbered (c ∷ cs) (n, ns) q (inr (_, h)) = numbered cs ns q h
 
-numbered-slices : (i : ℕ) (ss : List Slice) (cs : List {1} Check) → Numbered cs → Numbered (slices i ss ++ cs)
+pub numbered-slices : (i : ℕ) (ss : List Slice) (cs : List {1} Check) → Numbered cs → Numbered (slices i ss ++ cs)
 numbered-slices i [] cs h = h
 numbered-slices i (s ∷ ss) cs h = (omega arith, numbered-slices (suc i) ss cs h)
+
+pub numbered-append : (cs ds : List {1} Check) → Numbered cs → Numbered ds → Numbered (cs ++ ds)
+numbered-append [] ds h k = k
+numbered-append (c ∷ cs) ds (n, h) k = (n, numbered-append cs ds h k)
 
 -- ---- all characters
 
