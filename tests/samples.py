@@ -54,6 +54,7 @@ def made():
     tree = lambda entries: HANDOUT_SHEET.replace(b"0,5,6,6,1,5", entries)
     return {
         "handout": HANDOUT_SHEET,
+        "handout_corrected": HANDOUT_SHEET.replace(b"row=5,0", b"row=3,0"),
         "handout_deltran": HANDOUT_SHEET + b"resolve=deltran\n",
         "figure_4": one_column(FIGURE_4),
         "narushima_hanazawa": one_column(NARUSHIMA),
