@@ -27,7 +27,7 @@ use Rattle.parsimony.proofs.Characters.{
 use Rattle.parsimony.proofs.Uniqueness.{one-least}
 use Rattle.parsimony.proofs.Tables.Trees.{Tree}
 use Rattle.shapes.specs.Shape.{Filled, IsOrder}
-use Rattle.shapes.specs.Filling.{Fillable, Orders}
+use Rattle.shapes.specs.Filling.{Orders}
 use Rattle.indices.specs.Indices.{Readable}
 use Rattle.descents.specs.Descents.{Descends, Finals, Chooses}
 use Rattle.choices.specs.declared.Resolve.{Resolve}
@@ -50,10 +50,6 @@ module _ (n c j ρ : ℕ) (tree matrix first-lows first-highs final-lows final-h
 -- ---- what the steps ask
 
 module _ (n c j ρ δ : ℕ) (tree matrix : List ℕ) (before : Results) (G : GivenOne n c j ρ δ tree matrix before) where
-  pub fillable : (left right : List ℕ) → ((i : ℕ) → getD left i 0 ≡ 0) → length left ≡ 254 → length right ≡ 254 → Fillable n tree left right
-  fillable left right blank l r =
-      record { sized = G .sized; within = G .accepted .is-tree .within; two = G .accepted .two; blank = blank; lefts = l; rights = r }
-
   pub orders : (left right : List ℕ) → Filled n tree left right → Orders n δ tree ρ left right
   orders left right F = record { sized = G .sized; accepted = G .accepted; shape = F }
 

@@ -102,18 +102,18 @@ module _ (n c t j : ℕ) (tree matrix lows highs lengths : List ℕ) (G : Correc
   pub pathable : (path : List ℕ) → length path ≡ 254 → Pathable n tree t path
   pathable path long =
       record {
-        sized = G .sized;
-        ρ = G .ρ;
-        δ = G .δ;
-        accepted = G .accepted;
-        some = G .taxon .0;
-        most = omega (arith, G .taxon .1, G .sized .nodes, G .sized .least);
+        sized = G .cell .sized;
+        ρ = G .cell .ρ;
+        δ = G .cell .δ;
+        accepted = G .cell .accepted;
+        some = G .cell .taxon .0;
+        most = omega (arith, G .cell .taxon .1, G .cell .sized .nodes, G .cell .sized .least);
         long = long;
       }
 
   module _ (before path : List ℕ) (count : ℕ) (long : length before ≡ 254) (P : IsPath n tree t before path count) where
     abbrev whole : Tree
-    whole = record { n = n; tree = tree; ρ = G .ρ; δ = G .δ; is-tree = G .accepted .is-tree }
+    whole = record { n = n; tree = tree; ρ = G .cell .ρ; δ = G .cell .δ; is-tree = G .cell .accepted .is-tree }
 
     pub has-path : HasPath n t count tree path
     has-path =
@@ -124,11 +124,11 @@ module _ (n c t j : ℕ) (tree matrix lows highs lengths : List ℕ) (G : Correc
         }
       where
         room : 0 + length (pathOf n tree t) ≤ length before
-        room = omega (arith, path-short whole t, G .sized .nodes, G .sized .most)
+        room = omega (arith, path-short whole t, G .cell .sized .nodes, G .cell .sized .most)
 
     pub looks : Looks n t count tree path lows highs lengths
     looks =
-        record { ρ = G .ρ; δ = G .δ; sized = G .sized; accepted = G .accepted; listed = has-path; lists = G .lists }
+        record { ρ = G .cell .ρ; δ = G .cell .δ; sized = G .cell .sized; accepted = G .cell .accepted; listed = has-path; lists = G .lists }
 
     pub count-few : count ≤ 254
-    count-few = omega (arith, P .counts, path-short whole t, G .sized .nodes, G .sized .most)
+    count-few = omega (arith, P .counts, path-short whole t, G .cell .sized .nodes, G .cell .sized .most)

@@ -20,10 +20,10 @@ module _ (n c t j : ℕ) (tree matrix lows highs lengths : List ℕ) (G : Correc
   start = (j - 1) * (n - 2)
 
   all : AllCharacters n c lows highs lengths
-  all = record { least = G .sized .least; most = G .sized .most; few = G .few; long = G .long }
+  all = record { least = G .cell .sized .least; most = G .cell .sized .most; few = G .cell .few; long = G .long }
 
   last : j - 1 < c
-  last = omega (arith, G .character)
+  last = omega (arith, G .cell .character)
 
   pub ends-in : (start + (n - 2) ≤ length lows) × (start + (n - 2) ≤ length highs) × (start + (n - 2) ≤ length lengths)
   ends-in = searching.ends-in n c lows highs lengths all (j - 1) last
@@ -36,18 +36,7 @@ module _ (n c t j : ℕ) (tree matrix lows highs lengths : List ℕ) (G : Correc
   pub correctable : (q : ℕ) → q ≡ n - 2
       → Correctable n c t j tree matrix (take q (drop start lows)) (take q (drop start highs)) (take q (drop start lengths))
   correctable q e =
-      record {
-        ρ = G .ρ;
-        δ = G .δ;
-        sized = G .sized;
-        accepted = G .accepted;
-        taxon = G .taxon;
-        character = G .character;
-        few = G .few;
-        rows = G .rows;
-        small = G .small;
-        lists = searching.one-character n c lows highs lengths all (j - 1) last q e;
-      }
+      record { cell = G .cell; lists = searching.one-character n c lows highs lengths all (j - 1) last q e }
 
   -- ---- put back
 
@@ -84,9 +73,9 @@ module _ (n c t j : ℕ) (tree matrix lows highs lengths : List ℕ) (G : Correc
                 length-long = with-long (n - 2) lengths j ps length-in length-long ∙ G .long .length-long;
               };
           others = λ i p q d. (
-            with-other (n - 2) lows j pl low-in low-long i (G .character .0) p d (in-table lows (G .long .low-long) i p q),
-            with-other (n - 2) highs j ph high-in high-long i (G .character .0) p d (in-table highs (G .long .high-long) i p q),
-            with-other (n - 2) lengths j ps length-in length-long i (G .character .0) p d (in-table lengths (G .long .length-long) i p q),
+            with-other (n - 2) lows j pl low-in low-long i (G .cell .character .0) p d (in-table lows (G .long .low-long) i p q),
+            with-other (n - 2) highs j ph high-in high-long i (G .cell .character .0) p d (in-table highs (G .long .high-long) i p q),
+            with-other (n - 2) lengths j ps length-in length-long i (G .cell .character .0) p d (in-table lengths (G .long .length-long) i p q),
           );
         }
       where

@@ -71,8 +71,8 @@ CorrectsIn n c t j s tree matrix lows highs lengths matrix′ lows′ highs′ l
 
 -- ---- what is given
 
--- an accepted tree, a taxon, a character of the matrix without a state above 9999, and its entries
-pub record Correctable (n c t j : ℕ) (tree matrix lows highs lengths : List ℕ) : Type 0 where
+-- an accepted tree, a taxon, and a character of the matrix without a state above 9999
+pub record Cell (n c t j : ℕ) (tree matrix : List ℕ) : Type 0 where
   pub ρ : ℕ
   pub δ : ℕ
   pub sized : Sized n tree
@@ -82,19 +82,15 @@ pub record Correctable (n c t j : ℕ) (tree matrix lows highs lengths : List �
   pub few : c ≤ 512
   pub rows : length matrix ≡ n * c
   pub small : (k : ℕ) → 1 ≤ k → k ≤ n → stateOf matrix c j k ≤ 9999
+
+-- with the entries of the character
+pub record Correctable (n c t j : ℕ) (tree matrix lows highs lengths : List ℕ) : Type 0 where
+  pub cell : Cell n c t j tree matrix
   pub lists : OneCharacter n lows highs lengths
 
--- the same, with the entries of all characters
+-- with the entries of all characters
 pub record CorrectableIn (n c t j : ℕ) (tree matrix lows highs lengths : List ℕ) : Type 0 where
-  pub ρ : ℕ
-  pub δ : ℕ
-  pub sized : Sized n tree
-  pub accepted : Accepted n tree ρ δ
-  pub taxon : (1 ≤ t) × (t ≤ n)
-  pub character : (1 ≤ j) × (j ≤ c)
-  pub few : c ≤ 512
-  pub rows : length matrix ≡ n * c
-  pub small : (k : ℕ) → 1 ≤ k → k ≤ n → stateOf matrix c j k ≤ 9999
+  pub cell : Cell n c t j tree matrix
   pub long : TableLong n c lows highs lengths
 
 -- ---- the steps

@@ -212,15 +212,18 @@ module _ (n c t j s : ℕ) (tree matrix : List ℕ) (T : Table) (L : InLimits n 
     pub correctable-in : CorrectableIn n c t j tree matrix (T .lows) (T .highs) (T .lengths)
     correctable-in =
         record {
-          ρ = ρ;
-          δ = δ;
-          sized = sized n c tree matrix (tableSlices n c T) L told m (A .0);
-          accepted = A .1;
-          taxon = taxon;
-          character = character;
-          few = L .few;
-          rows = admissible n c tree matrix (tableSlices n c T) L told m .exact (A .0) .1;
-          small = subst (λ x. (k : ℕ) → 1 ≤ k → k ≤ n → stateOf matrix c x k ≤ 9999) this (states-small n c w matrix (A .2 .small));
+          cell =
+              record {
+                ρ = ρ;
+                δ = δ;
+                sized = sized n c tree matrix (tableSlices n c T) L told m (A .0);
+                accepted = A .1;
+                taxon = taxon;
+                character = character;
+                few = L .few;
+                rows = admissible n c tree matrix (tableSlices n c T) L told m .exact (A .0) .1;
+                small = subst (λ x. (k : ℕ) → 1 ≤ k → k ≤ n → stateOf matrix c x k ≤ 9999) this (states-small n c w matrix (A .2 .small));
+              };
           long = table-long n c T [] (rest-passes n c tree matrix (tableSlices n c T) L told m (A .0)) .0;
         }
 

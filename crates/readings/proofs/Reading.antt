@@ -9,7 +9,7 @@ use Rattle.parsimony.specs.Character.{atNode}
 use Rattle.parsimony.proofs.Tables.Trees.{Tree, δ-most}
 use Rattle.parsimony.proofs.Tables.Whole.{δ-inner}
 use Rattle.shapes.specs.Shape.{Filled, IsOrder}
-use Rattle.shapes.specs.Filling.{Fillable, Orders}
+use Rattle.shapes.specs.Filling.{Orders}
 use Rattle.descents.specs.Descents.{Descends, Finals}
 use Rattle.entries.proofs.Searching.{clean}
 use Rattle.tallies.specs.Tallies.{IsLength, HasTop}
@@ -17,17 +17,6 @@ use Rattle.readings.specs.Readings.{IsRead, Clean}
 
 module _ (n c j ρ δ : ℕ) (tree matrix lows highs lengths final-lows final-highs : List ℕ)
     (G : Clean n c j ρ δ tree matrix lows highs lengths final-lows final-highs) where
-  pub fillable : (left right : List ℕ) → ((i : ℕ) → getD left i 0 ≡ 0) → length left ≡ 254 → length right ≡ 254 → Fillable n tree left right
-  fillable left right blank l r =
-      record {
-        sized = G .given .sized;
-        within = G .given .accepted .is-tree .within;
-        two = G .given .accepted .two;
-        blank = blank;
-        lefts = l;
-        rights = r;
-      }
-
   pub orders : (left right : List ℕ) → Filled n tree left right → Orders n δ tree ρ left right
   orders left right F = record { sized = G .given .sized; accepted = G .given .accepted; shape = F }
 

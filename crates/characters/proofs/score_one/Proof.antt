@@ -5,13 +5,13 @@ use native.Mathlib.Omega.{arith}
 use mathlib.Core.Path.{_≡_, refl, sym, _∙_, ap, subst}
 use Prim.Native.Nat.{ℕ, _+_, _-_, _*_, _≤_, _<_}
 use lib.ListN.{length}
+use Rattle.shapes.proofs.Ready.{ready}
 use Rattle.parsimony.specs.Matrix.{stateOf}
-use Rattle.parsimony.proofs.Sums.{zeros}
 use Rattle.shapes.specs.Shape.{IsOrder}
 use Rattle.indices.proofs.Most.{m-most}
 use Rattle.characters.specs.Afresh.{Results, CharacterMeans}
 use Rattle.characters.specs.Steps.{GivenOne, BegunIn}
-use Rattle.characters.proofs.Meaning.{fillable, orders, given, descends, readable, means}
+use Rattle.characters.proofs.Meaning.{orders, given, descends, readable, means}
 use Rattle.characters.proofs.score_one.Statement.{statement}
 use Rattle.characters.proofs.score_one.Tie as tie
 
@@ -180,9 +180,7 @@ begun-in c =
     ((descendants-of-begin c) .descendants .ensures))
 
 descendants-requires : tie.Need-descendants-requires
-descendants-requires c κs =
-    fillable _ _ _ _ _ ((start-of-right c) .args .tree .now) ((start-of-right c) .args .matrix .now) (lists (start-of-right c))
-    ((start-of-right c) .pre) _ _ (λ i. zeros 254 i) refl refl
+descendants-requires c κs = ready _ _ _ _ ((start-of-right c) .pre .sized) ((start-of-right c) .pre .accepted)
 
 order-requires : tie.Need-order-requires
 order-requires c κs =

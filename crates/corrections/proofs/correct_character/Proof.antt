@@ -110,7 +110,7 @@ cast-t25 c =
     omega (
       arith,
       found-low (c .before) .most,
-      (start-of-known-told c) .pre .sized .most,
+      (start-of-known-told c) .pre .cell .sized .most,
       count-few _ _ _ _ ((start-of-known-told c) .args .tree .now)
           ((start-of-known-told c) .args .matrix .now) ((start-of-known-told c) .args .lows .now) ((start-of-known-told c) .args .highs .now)
           ((start-of-known-told c) .args .lengths .now) ((start-of-known-told c) .pre) _ _ _ refl ((path2-of-known-told c) .path2 .ensures),
@@ -150,7 +150,7 @@ cast-t37 c =
       count-few _ _ _ _ ((start-of-slice-known8 c) .args .tree .now) ((start-of-slice-known8 c) .args .matrix .now)
           ((start-of-slice-known8 c) .args .lows .now) ((start-of-slice-known8 c) .args .highs .now) ((start-of-slice-known8 c) .args .lengths .now)
           ((start-of-slice-known8 c) .pre) _ _ _ refl ((path2-of-slice-known8 c) .path2 .ensures),
-      (start-of-slice-known8 c) .pre .sized .most,
+      (start-of-slice-known8 c) .pre .cell .sized .most,
     )
 
 same-length-4 : tie.Need-same-length-4

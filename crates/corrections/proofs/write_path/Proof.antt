@@ -6,8 +6,8 @@ use mathlib.Core.Path.{_≡_, refl, sym, _∙_, ap, subst}
 use mathlib.Core.Logic.{inl, inr}
 use Prim.Native.Nat.{ℕ, _+_, _-_, _*_, _≤_, _<_}
 use lib.ListN.{length, getD, set}
-use Rattle.parsimony.proofs.Sums.{zeros}
-use Rattle.corrections.proofs.Writing.{fillable, cell-place, cell-small, mends-path, mended}
+use Rattle.shapes.proofs.Ready.{ready}
+use Rattle.corrections.proofs.Writing.{cell-place, cell-small, mends-path, mended}
 use Rattle.corrections.proofs.write_path.Statement.{statement}
 use Rattle.corrections.proofs.write_path.Tie as tie
 
@@ -31,10 +31,7 @@ abbrev start-of-slice-known7 : tie.After-slice-known7 → tie.Start
 start-of-slice-known7 c = start-of-mend-path-arg4 (c .before .before .before .before .before .before .before)
 
 descendants-requires : tie.Need-descendants-requires
-descendants-requires c κs =
-    fillable _ _ _ _ _ _ ((start-of-right c) .args .tree .now) ((start-of-right c) .args .path .now) ((start-of-right c) .args .matrix .now)
-    ((start-of-right c) .args .lows .now) ((start-of-right c) .args .highs .now) ((start-of-right c) .args .lengths .now) ((start-of-right c) .pre) _
-    _ (λ i. zeros 254 i) refl refl
+descendants-requires c κs = ready _ _ _ _ ((start-of-right c) .pre .given .cell .sized) ((start-of-right c) .pre .given .cell .accepted)
 
 sub-matrix : tie.Need-sub-matrix
 sub-matrix c = search needs

@@ -6,10 +6,10 @@ use mathlib.Core.Path.{_≡_, refl, sym, _∙_, ap, subst}
 use mathlib.Core.List.{List}
 use Prim.Native.Nat.{ℕ, _+_, _-_, _*_, _≤_, _<_}
 use lib.ListN.{length}
-use Rattle.parsimony.proofs.Sums.{zeros}
+use Rattle.shapes.proofs.Ready.{ready}
 use Rattle.shapes.specs.Shape.{IsOrder}
 use Rattle.readings.specs.Readings.{Clean}
-use Rattle.readings.proofs.Reading.{fillable, orders, descends, has-top, wider, is-read}
+use Rattle.readings.proofs.Reading.{orders, descends, has-top, wider, is-read}
 use Rattle.readings.proofs.read_entries.Statement.{statement}
 use Rattle.readings.proofs.read_entries.Tie as tie
 
@@ -80,10 +80,7 @@ turns c =
     ((descendants-of-wide2 c) .descendants .last .1 .1 .1 .0) ((descendants-of-wide2 c) .descendants .ensures)))
 
 descendants-requires : tie.Need-descendants-requires
-descendants-requires c κs =
-    fillable _ _ _ _ _ ((start-of-right c) .args .tree .now) ((start-of-right c) .args .matrix .now) ((start-of-right c) .args .lows .now)
-    ((start-of-right c) .args .highs .now) ((start-of-right c) .args .lengths .now) ((start-of-right c) .args .final-lows .now)
-    ((start-of-right c) .args .final-highs .now) ((start-of-right c) .pre) _ _ (λ i. zeros 254 i) refl refl
+descendants-requires c κs = ready _ _ _ _ ((start-of-right c) .pre .given .sized) ((start-of-right c) .pre .given .accepted)
 
 order-requires : tie.Need-order-requires
 order-requires c κs =

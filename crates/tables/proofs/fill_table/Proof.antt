@@ -5,7 +5,7 @@ use native.Mathlib.Omega.{arith}
 use mathlib.Core.Path.{_≡_, refl, sym, _∙_, ap, subst}
 use Prim.Native.Nat.{ℕ, _+_, _-_, _*_, _≤_, _<_}
 use lib.ListN.{length}
-use Rattle.parsimony.proofs.Sums.{zeros}
+use Rattle.shapes.proofs.Ready.{ready}
 use Rattle.tables.proofs.Building.{table-means}
 use Rattle.tables.proofs.fill_table.Statement.{statement}
 use Rattle.tables.proofs.fill_table.Tie as tie
@@ -30,16 +30,7 @@ abbrev start-of-slice-known6 : tie.After-slice-known6 → tie.Start
 start-of-slice-known6 c = start-of-build-blocks-arg3 (c .before .before .before .before .before .before .before)
 
 descendants-requires : tie.Need-descendants-requires
-descendants-requires c κs =
-    record {
-      sized = (start-of-right c) .pre .0 .sized;
-      within = (start-of-right c) .pre .0 .accepted .is-tree .within;
-      two =
-          (start-of-right c) .pre .0 .accepted .two;
-      blank = λ i. zeros 254 i;
-      lefts = refl;
-      rights = refl;
-    }
+descendants-requires c κs = ready _ _ _ _ ((start-of-right c) .pre .0 .sized) ((start-of-right c) .pre .0 .accepted)
 
 build-blocks-requires : tie.Need-build-blocks-requires
 build-blocks-requires c κs =

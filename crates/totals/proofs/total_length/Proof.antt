@@ -5,7 +5,7 @@ use native.Mathlib.Omega.{arith}
 use mathlib.Core.Path.{_≡_, refl, sym, _∙_, ap, subst}
 use Prim.Native.Nat.{ℕ, _+_, _-_, _*_, _≤_, _<_}
 use lib.ListN.{length}
-use Rattle.parsimony.proofs.Sums.{zeros}
+use Rattle.shapes.proofs.Ready.{ready}
 use Rattle.totals.specs.Totals.{GivenBlocks}
 use Rattle.totals.proofs.total_length.Statement.{statement}
 use Rattle.totals.proofs.total_length.Tie as tie
@@ -27,16 +27,7 @@ abbrev start-of-sum-blocks : tie.After-sum-blocks → tie.Start
 start-of-sum-blocks c = start-of-lengths (c .before)
 
 descendants-requires : tie.Need-descendants-requires
-descendants-requires c κs =
-    record {
-      sized = (start-of-right c) .pre .sized;
-      within = (start-of-right c) .pre .accepted .is-tree .within;
-      two =
-          (start-of-right c) .pre .accepted .two;
-      blank = λ i. zeros 254 i;
-      lefts = refl;
-      rights = refl;
-    }
+descendants-requires c κs = ready _ _ _ _ ((start-of-right c) .pre .sized) ((start-of-right c) .pre .accepted)
 
 sum-blocks-requires : tie.Need-sum-blocks-requires
 sum-blocks-requires c κs =
