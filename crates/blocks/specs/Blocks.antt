@@ -96,7 +96,7 @@ pub record Walks (node n w : ℕ) (tree : List ℕ) (ρ δ : ℕ) (left right lo
   pub fits : (i k : ℕ) → 1 ≤ i → i ≤ w → 1 ≤ k → k ≤ n → (stateOf lows w i k ≤ stateOf highs w i k) × (stateOf highs w i k ≤ 9999)
   pub none : (i k : ℕ) → 1 ≤ i → i ≤ w → 1 ≤ k → k ≤ n → stateOf lengths w i k ≡ 0
 
--- and as many nodes are allowed as there can be on a way down from it
+-- and as many nodes are allowed as there can be one below the other from it down
 pub record Walkable (node allowed n w : ℕ) (left right lows highs lengths : List ℕ) : Type 0 where
   pub tree : List ℕ
   pub ρ : ℕ

@@ -59,7 +59,7 @@ fn settle(
     }
 }
 
-// Finishes the whole subtree of a node, and then the node. At most `allowed` nodes are still allowed on the way down.
+// Finishes the whole subtree of a node, and then the node. At most `allowed` nodes are still allowed below one another.
 pub fn walk(
     node: usize,
     allowed: usize,

@@ -6,7 +6,7 @@ ghost use Prim.Native.Nat.{ℕ, _≤_, _<_};
 ghost use lib.ListN.{length};
 ghost use Rattle.climbs.specs.Climbs.{Climbable, FindsLost, Marked, Climbed};
 
-// Climbs from the node k, marking the nodes on the way with k, and tells whether the way leads to the root. It does if it comes to the root, or
+// Climbs from the node k, marking the nodes that it passes with k, and tells whether the climb leads to the root. It does if it comes to the root, or
 // to a node with an earlier mark; if it comes to a node with the mark k, it goes round for ever.
 fn climbs_out(root: usize, k: usize, tree: &[u16], marks: &mut [u16]) -> bool
     requires { ⌜ Climbable root (now tree) × Marked root (now tree) k (now marks) × (1 ≤ k) × (k ≤ length (now tree)) ⌝ }

@@ -65,7 +65,7 @@ handout-2 =
       ri′ = fraction 0 1;
     }
 
--- its first character with the state 3 at taxon 4, whose way to the root has both interior nodes
+-- its first character with the state 3 at taxon 4, whose path to the root has both interior nodes
 taxon-4 : Correction
 taxon-4 =
     record {

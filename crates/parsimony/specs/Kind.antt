@@ -39,7 +39,7 @@ pub record Laws (K : Kind) : Type 0 where
   -- the nearest state is in the region, and as far as the region
   pub nearest-in : (r : K .Region) (x : K .State) → In K (K .nearest r x) r
   pub nearest-far : (r : K .Region) (x : K .State) → K .distance x (K .nearest r x) ≡ K .away x r
-  -- a state of the join is as far from the regions, in all, as the cost says; another is farther, by its way to the join or more
+  -- a state of the join is as far from the regions, in all, as the cost says; another is farther, by its distance to the join or more
   pub join-in : (r : K .Region) (rs : List (K .Region)) (x : K .State) → In K x (K .join (r ∷ rs)) → total K x (r ∷ rs) ≡ K .cost (r ∷ rs)
   pub join-out : (r : K .Region) (rs : List (K .Region)) (x : K .State)
       → K .cost (r ∷ rs) + K .away x (K .join (r ∷ rs)) ≤ total K x (r ∷ rs)

@@ -32,7 +32,7 @@ module _ (K : Kind) (n : ℕ) (cell : ℕ → K .Region) (tree : List ℕ) where
   abbrev pub final : (entry above : ℕ → K .Region) → ℕ → K .Region
   final entry above v = K .join (map entry (descendants tree v) ++ (above v ∷ []))
 
-  -- The character's length: what is below the root's descendant, and the way from there to the root's cell.
+  -- The character's length: what is below the root's descendant, and the distance from there to the root's cell.
   abbrev pub lengthBy : (ρ δ : ℕ) (entry : ℕ → K .Region) (size : ℕ → ℕ) → ℕ
   lengthBy ρ δ entry size = size δ + K .cost (cell ρ ∷ entry δ ∷ [])
 

@@ -10,7 +10,7 @@ pub enum Length {
     Refused(Refusal),
 }
 
-// The length of one character: what is below the root's descendant, and the way from there to the root's state.
+// The length of one character: what is below the root's descendant, and the distance from there to the root's state.
 pub fn length_here(
     n: usize,
     c: usize,

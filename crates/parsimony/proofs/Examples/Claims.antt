@@ -95,7 +95,7 @@ module _ (c : Correction) where
     pub first-before : FirstMeans n (stateIn states) tree (before .lows) (before .highs) (before .lengths)
     pub first : FirstMeans n stateAfter tree lows highs lengths
     pub least : LengthMeans ordered n (cells n stateAfter) tree length′
-    -- nothing is rewritten off the way from the taxon to the root, and the count is the number of the interior nodes on it
+    -- nothing is rewritten off the path from the taxon to the root, and the count is the number of the interior nodes on it
     pub kept : (v : ℕ) → n < v → v ≤ length tree → below tree v taxon ≡ 0 → AsBefore v
     pub count-is : between n tree taxon ≡ count
 

@@ -1,5 +1,5 @@
--- A corrected cell. Only entries on the way from the taxon to the root are written, and each node there is settled anew: then all are settled for
--- the corrected cells. A node off the way has the same entry as before, and so has each of its descendants.
+-- A corrected cell. Only entries on the path from the taxon to the root are written, and each node there is settled anew: then all are settled for
+-- the corrected cells. A node off the path has the same entry as before, and so has each of its descendants.
 -- Assumes nothing.
 use mathlib.Core.Path.{_≡_, refl, sym, _∙_, ap, ap₂}
 use mathlib.Core.Logic.{_≢_}
@@ -41,7 +41,7 @@ module _ (K : Kind) (entry entry′ : ℕ → K .Region) (size size′ : ℕ →
 module _ (K : Kind) (T : Tree) (cell cell′ : ℕ → K .Region) (entry entry′ : ℕ → K .Region) (size size′ : ℕ → ℕ) (x : ℕ) where
   open Tree T using (n, tree, is-tree)
 
-  -- the node v is off the way up from x, and so are its descendants: none of them is x
+  -- the node v is off the path from x, and so are its descendants: none of them is x
   apart : (v : ℕ) → n < v → below tree v x ≡ 0 → All (λ c. (1 ≤ c) × (c ≤ length tree) × (c ≢ x) × (below tree c x ≡ 0)) (descendants tree v)
   apart v lo z =
       both (descendants tree v) (each-descends tree v)
