@@ -1,8 +1,10 @@
 //! A call with everything it is lent; what the library and the independent implementation make of it.
+pub use crate::buffers::{Buffers, UNTOUCHED};
+pub use crate::laid::Memory;
+
+use crate::laid::Laid;
 use badrumello::{lent, raw};
 use independent::{calls, coded, sheets};
-use std::fmt;
-use std::mem::MaybeUninit;
 
 /// Which C function, and its numbers.
 #[derive(Clone, Copy, Debug, PartialEq, Eq)]
@@ -32,141 +34,11 @@ impl Call {
     }
 }
 
-/// Every slice that a call may be lent. Those it is not lent are empty.
-#[derive(Clone, Default, PartialEq, Eq)]
-pub struct Buffers {
-    pub text: Vec<u8>,
-    pub tree: Vec<u16>,
-    pub matrix: Vec<u16>,
-    pub first_low: Vec<u16>,
-    pub first_high: Vec<u16>,
-    pub subtree: Vec<u32>,
-    pub final_low: Vec<u16>,
-    pub final_high: Vec<u16>,
-    pub states: Vec<u16>,
-    pub low: Vec<u16>,
-    pub high: Vec<u16>,
-    pub lengths: Vec<u32>,
-    pub result: Vec<u32>,
-    pub out: Vec<u8>,
-}
-
-/// The start of a list, and how long it is.
-struct Start<'a, T>(&'a [T]);
-
-impl<T: fmt::Debug> fmt::Debug for Start<'_, T> {
-    fn fmt(&self, out: &mut fmt::Formatter<'_>) -> fmt::Result {
-        let shown = &self.0[..self.0.len().min(400)];
-        write!(out, "{shown:?}")?;
-        if shown.len() < self.0.len() { write!(out, " and more, {} in all", self.0.len()) } else { Ok(()) }
-    }
-}
-
-impl fmt::Debug for Buffers {
-    fn fmt(&self, out: &mut fmt::Formatter<'_>) -> fmt::Result {
-        if !self.text.is_empty() {
-            let text = self.text[..self.text.len().min(2000)].escape_ascii();
-            writeln!(out, "  text ({} bytes): \"{text}\"", self.text.len())?;
-        }
-        for (name, list) in [
-            ("tree", &self.tree),
-            ("matrix", &self.matrix),
-            ("first_low", &self.first_low),
-            ("first_high", &self.first_high),
-            ("final_low", &self.final_low),
-            ("final_high", &self.final_high),
-            ("states", &self.states),
-            ("low", &self.low),
-            ("high", &self.high),
-        ] {
-            if !list.is_empty() {
-                writeln!(out, "  {name}: {:?}", Start(list))?;
-            }
-        }
-        for (name, list) in [("subtree", &self.subtree), ("lengths", &self.lengths), ("result", &self.result)] {
-            if !list.is_empty() {
-                writeln!(out, "  {name}: {:?}", Start(list))?;
-            }
-        }
-        if !self.out.is_empty() {
-            let end = self.out.iter().position(|&byte| byte == UNTOUCHED).unwrap_or(self.out.len()).min(4000);
-            writeln!(out, "  out ({} bytes): \"{}\"", self.out.len(), self.out[..end].escape_ascii())?;
-        }
-        Ok(())
-    }
-}
-
-/// What out slices hold before a call: no byte of a report.
-pub const UNTOUCHED: u8 = 0xA5;
-
 /// A call and what it is lent.
 #[derive(Clone)]
 pub struct Case {
     pub call: Call,
     pub lent: Buffers,
-}
-
-/// How slices are laid into memory.
-#[derive(Clone, Copy, PartialEq, Eq)]
-pub enum Memory {
-    /// Between fences of known elements, which are looked at after the call.
-    Fenced,
-    /// Each in an allocation of exactly its size, for valgrind.
-    Exact,
-    /// The same, and slices that a call only writes are lent without a value, so that valgrind notices if one is used before it is written.
-    Blank,
-}
-
-const FENCE: usize = 24;
-
-/// One slice in memory.
-struct Laid<T> {
-    store: Vec<MaybeUninit<T>>,
-    fence: usize,
-    blank: bool,
-}
-
-impl<T: Copy + PartialEq> Laid<T> {
-    fn new(values: &[T], fill: T, memory: Memory, only_written: bool) -> Laid<T> {
-        let fence = if memory == Memory::Fenced { FENCE } else { 0 };
-        let blank = memory == Memory::Blank && only_written;
-        let mut store = Vec::with_capacity(values.len() + 2 * fence);
-        store.extend(std::iter::repeat_n(MaybeUninit::new(fill), fence));
-        if blank {
-            // SAFETY: the elements need no value, and there is room for them. (A list of `MaybeUninit::uninit()` would do in Rust, but the compiler may
-            // give it values, and then valgrind would see nothing.)
-            unsafe { store.set_len(values.len()) };
-        } else {
-            store.extend(values.iter().map(|&value| MaybeUninit::new(value)));
-        }
-        store.extend(std::iter::repeat_n(MaybeUninit::new(fill), fence));
-        Laid { store, fence, blank }
-    }
-
-    fn len(&self) -> usize {
-        self.store.len() - 2 * self.fence
-    }
-
-    fn pointer(&mut self) -> *mut T {
-        self.store[self.fence..].as_mut_ptr().cast()
-    }
-
-    /// The slice after the call. Of one that had no value, the first `written` elements.
-    fn after(&self, values: &mut [T], fill: T, written: usize) -> Result<(), String> {
-        // SAFETY: an element of a fence has a value, and so has every element of a slice that was not blank; of one that was, those that the call says
-        // it has written (and if it has not, that is what valgrind is to find).
-        let read = |one: &MaybeUninit<T>| unsafe { one.assume_init() };
-        let end = self.store.len() - self.fence;
-        let fences = self.store[..self.fence].iter().chain(&self.store[end..]);
-        if fences.map(read).any(|element| element != fill) {
-            return Err("something beside a slice was written".to_string());
-        }
-        let taken = if self.blank { written.min(self.len()) } else { self.len() };
-        for (value, one) in values.iter_mut().zip(&self.store[self.fence..end]).take(taken) {
-            *value = read(one);
-        }
-        Ok(())
-    }
 }
 
 impl Case {

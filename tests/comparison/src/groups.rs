@@ -2,6 +2,7 @@
 use crate::case::{Buffers, Call, Case, Memory};
 use crate::inputs::{self, FAULTS, Fault};
 use crate::random::Random;
+use crate::sheet_inputs;
 use independent::ways;
 use std::collections::BTreeMap;
 
@@ -217,15 +218,15 @@ pub fn corrections(random: &mut Random, n: usize, c: usize, steps: usize, memory
 }
 
 fn sheets(random: &mut Random, memory: Memory, tally: &mut Tally) -> Result<(), String> {
-    let mut text = inputs::good_sheet(random);
+    let mut text = sheet_inputs::good_sheet(random);
     for _ in 0..random.pick(&[0, 0, 1, 1, 1, 2, 3]) {
-        inputs::damage_sheet(random, &mut text);
+        sheet_inputs::damage_sheet(random, &mut text);
     }
-    let mut reading = inputs::sheet_case(random, text.clone(), false);
-    let mut reporting = inputs::sheet_case(random, text, true);
+    let mut reading = sheet_inputs::sheet_case(random, text.clone(), false);
+    let mut reporting = sheet_inputs::sheet_case(random, text, true);
     if random.one_in(10) {
-        inputs::damage_sheet_case(random, &mut reading);
-        inputs::damage_sheet_case(random, &mut reporting);
+        sheet_inputs::damage_sheet_case(random, &mut reading);
+        sheet_inputs::damage_sheet_case(random, &mut reporting);
     }
     compare(&reading, memory, tally)?;
     if memory == Memory::Fenced || reporting.lent.text.len() < 2000 {

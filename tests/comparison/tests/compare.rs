@@ -2,8 +2,8 @@
 //! seed again, and with more seconds it goes on from there.
 use comparison::case::{Case, Memory};
 use comparison::groups::{Group, Tally, corrections, run};
-use comparison::inputs;
 use comparison::random::Random;
+use comparison::{inputs, sheet_inputs};
 
 fn run_all(group: Group, seeds: std::ops::Range<u64>) -> Tally {
     let mut tally = Tally::default();
@@ -102,9 +102,9 @@ fn the_largest_sizes() {
 fn the_largest_sheets() {
     for (seed, n, c) in [(1, 256, 55), (2, 3, 512), (3, 30, 512), (4, 100, 150), (5, 64, 200)] {
         let random = &mut Random::new(seed);
-        let mut text = inputs::longest_sheet(random, n, c);
+        let mut text = sheet_inputs::longest_sheet(random, n, c);
         for report in [false, true] {
-            let case = inputs::sheet_case(random, text.clone(), report);
+            let case = sheet_inputs::sheet_case(random, text.clone(), report);
             match case.compare(Memory::Fenced) {
                 Ok((value, _)) => assert_eq!(value >> 32, 0, "a long sheet is refused, seed {seed}"),
                 Err(fault) => panic!("long sheet, seed {seed}: {fault}"),
@@ -112,7 +112,7 @@ fn the_largest_sheets() {
         }
         text.resize(32_769, b'\n');
         for report in [false, true] {
-            if let Err(fault) = inputs::sheet_case(random, text.clone(), report).compare(Memory::Fenced) {
+            if let Err(fault) = sheet_inputs::sheet_case(random, text.clone(), report).compare(Memory::Fenced) {
                 panic!("too long a sheet, seed {seed}: {fault}");
             }
         }
@@ -129,9 +129,9 @@ fn the_stack_that_the_header_says() {
         let matrix = case.lent.matrix.clone();
         *case = inputs::around(random, kind, 256, 512, comb.clone(), matrix);
     }
-    let text = inputs::longest_sheet(random, 256, 55);
-    cases.push(inputs::sheet_case(random, text.clone(), false));
-    cases.push(inputs::sheet_case(random, text, true));
+    let text = sheet_inputs::longest_sheet(random, 256, 55);
+    cases.push(sheet_inputs::sheet_case(random, text.clone(), false));
+    cases.push(sheet_inputs::sheet_case(random, text, true));
     for case in cases {
         let name = case.call.name();
         let thread = std::thread::Builder::new().stack_size(262_144).spawn(move || case.library(Memory::Fenced)).expect("a thread starts");

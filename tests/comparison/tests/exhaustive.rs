@@ -1,8 +1,8 @@
 //! All cases of small kinds: every table of three and four taxa, every tree of up to five, every byte of a sheet changed.
 use comparison::case::{Buffers, Call, Case, Memory};
 use comparison::groups::{Tally, every_way};
-use comparison::inputs;
 use comparison::random::Random;
+use comparison::sheet_inputs;
 use independent::trees::Tree;
 
 /// The numbers of `digits` places to a base, one after another.
@@ -104,7 +104,7 @@ const SHEET: &[u8] = b"taxa=4\ncharacters=2\nancestors=0,5,6,6,1,5\nrow=0,0\nrow
 #[test]
 fn every_byte_of_a_sheet() {
     let random = &mut Random::new(7);
-    let mut read = |text: Vec<u8>| compare(&inputs::sheet_case(random, text, false)) >> 32;
+    let mut read = |text: Vec<u8>| compare(&sheet_inputs::sheet_case(random, text, false)) >> 32;
     let mut answered = 0;
     for at in 0..=SHEET.len() {
         read(SHEET[..at].to_vec());
@@ -134,7 +134,7 @@ fn reports_of_a_sheet_with_a_byte_changed() {
         for &byte in b"\n,=019 -r" {
             let mut text = SHEET.to_vec();
             text[at] = byte;
-            compare(&inputs::sheet_case(random, text, true));
+            compare(&sheet_inputs::sheet_case(random, text, true));
         }
     }
 }

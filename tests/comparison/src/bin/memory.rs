@@ -2,8 +2,8 @@
 //! are lent without a value. The first and the last seed may be given.
 use comparison::case::Memory;
 use comparison::groups::{GROUPS, Group, Tally, corrections, run};
-use comparison::inputs;
 use comparison::random::Random;
+use comparison::{inputs, sheet_inputs};
 use std::process::exit;
 
 fn main() {
@@ -40,9 +40,9 @@ fn main() {
         check(case.compare(Memory::Blank).map(|_| ()));
     }
     check(corrections(random, 256, 3, 2, Memory::Exact, &mut tally));
-    let text = inputs::longest_sheet(random, 256, 55);
+    let text = sheet_inputs::longest_sheet(random, 256, 55);
     for report in [false, true] {
-        let case = inputs::sheet_case(random, text.clone(), report);
+        let case = sheet_inputs::sheet_case(random, text.clone(), report);
         check(case.compare(Memory::Blank).map(|_| ()));
     }
     println!("seeds {first} to {last}: {} calls and the largest of each, none differs", tally.cases);
