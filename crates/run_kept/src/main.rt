@@ -6,185 +6,15 @@
 // After a correction the table is built afresh beside it, and the tree length and the same character are asked of it. Buffers are written as
 // digests, and a table of at most 40 entries in full at the end. A slice has 2500 entries at the most. Before a table is built its entries are 11,
 // 13 and 17; slices that receive final ranges hold 60000 in each entry.
+mod reading;
+mod writing;
+
 ghost use mathlib.Core.Path.{_≡_};
 ghost use Prim.Native.Nat.{_≤_, _<_, min};
 ghost use lib.ListN.{length};
-use corrections::Count;
-use kept::Built;
 use libc::STDIN_FILENO;
 use libc::STDOUT_FILENO;
-use numbers::Parsed;
-use refusals::Refusal;
 use refusals::wide;
-use tallies::Length;
-
-// ---- reading
-
-// A number, and the position after the byte that follows it.
-struct Number {
-    value: u16,
-    next: usize,
-}
-
-fn after(text: &[u8], at: usize) -> usize {
-    if at < text.len() { at + 1 } else { at }
-}
-
-fn next_number(text: &[u8], at: usize) -> Number {
-    let got = numbers::number(text, at);
-    match got {
-        Parsed::Bad => Number {
-            value: 0,
-            next: text.len(),
-        },
-        Parsed::Value(value, next) => Number {
-            value,
-            next: after(text, next),
-        },
-    }
-}
-
-fn read_list(text: &[u8], at: usize, list: &mut [u16]) -> usize {
-    let mut next = at;
-    let mut k: usize = 0;
-    while k < list.len() {
-        let entry = next_number(text, next);
-        list[k] = entry.value;
-        next = entry.next;
-        k += 1;
-    }
-    next
-}
-
-fn joined(above: u16, rest: u16) -> u32 {
-    (above as u32) * 65536 + (rest as u32)
-}
-
-fn read_lengths(text: &[u8], at: usize, list: &mut [u32]) -> usize {
-    let mut next = at;
-    let mut k: usize = 0;
-    while k < list.len() {
-        let above = next_number(text, next);
-        let rest = next_number(text, above.next);
-        list[k] = joined(above.value, rest.value);
-        next = rest.next;
-        k += 1;
-    }
-    next
-}
-
-fn least(a: usize, b: usize) -> usize
-    ensures { λ r. ⌜ r ≡ min a b ⌝ }
-{
-    if a < b { a } else { b }
-}
-
-// ---- writing
-
-fn put(name: &[u8], number: u64) {
-    io::write_all(STDOUT_FILENO, name);
-    io::print_decimal(STDOUT_FILENO, number);
-}
-
-fn put_refusal(refusal: Refusal) {
-    put(b"refused=", refusal.number as u64);
-    put(b",", refusal.place as u64);
-}
-
-fn put_built(name: &[u8], built: Built) {
-    io::write_all(STDOUT_FILENO, name);
-    match built {
-        Built::Done => {
-            io::write_all(STDOUT_FILENO, b"built");
-        }
-        Built::Refused(refusal) => put_refusal(refusal),
-    }
-}
-
-fn put_length(name: &[u8], length: Length) {
-    io::write_all(STDOUT_FILENO, name);
-    match length {
-        Length::Length(length) => put(b"length=", length as u64),
-        Length::Refused(refusal) => put_refusal(refusal),
-    }
-}
-
-fn put_count(count: Count) {
-    match count {
-        Count::Rewritten(rewritten) => put(b"rewritten=", rewritten as u64),
-        Count::Refused(refusal) => put_refusal(refusal),
-    }
-}
-
-fn put_list(name: &[u8], values: &[u16]) {
-    io::write_all(STDOUT_FILENO, name);
-    let mut k: usize = 0;
-    while k < values.len() {
-        let value = wide(values[k]);
-        put(b" ", value as u64);
-        k += 1;
-    }
-}
-
-fn long(x: u32) -> u64 {
-    x as u64
-}
-
-fn put_lengths(name: &[u8], values: &[u32]) {
-    io::write_all(STDOUT_FILENO, name);
-    let mut k: usize = 0;
-    while k < values.len() {
-        put(b" ", long(values[k]));
-        k += 1;
-    }
-}
-
-// A digest with one entry more: each counts with its place.
-fn with_entry(digest: u64, value: u32) -> u64
-    requires { ⌜ digest < 65521 ⌝ }
-    ensures { λ r. ⌜ r < 65521 ⌝ }
-{
-    (digest * 31 + value as u64 + 1) % 65521
-}
-
-fn state(x: u16) -> u32 {
-    x as u32
-}
-
-fn put_digest(name: &[u8], values: &[u16]) {
-    let mut sum: u64 = 0;
-    let mut k: usize = 0;
-    while k < values.len() {
-        sum = with_entry(sum, state(values[k]));
-        k += 1;
-    }
-    put(name, sum);
-}
-
-fn put_length_digest(name: &[u8], values: &[u32]) {
-    let mut sum: u64 = 0;
-    let mut k: usize = 0;
-    while k < values.len() {
-        sum = with_entry(sum, values[k]);
-        k += 1;
-    }
-    put(name, sum);
-}
-
-fn put_table(lows: &[u16], highs: &[u16], lengths: &[u32]) {
-    put_digest(b" lows=", lows);
-    put_digest(b" highs=", highs);
-    put_length_digest(b" lengths=", lengths);
-}
-
-fn put_entries(lows: &[u16], highs: &[u16], lengths: &[u32]) {
-    if lows.len() <= 40 {
-        put_list(b"lows", lows);
-        put_list(b"\nhighs", highs);
-        put_lengths(b"\nlengths", lengths);
-        io::write_all(STDOUT_FILENO, b"\n");
-    }
-}
 
 // ---- rooms, of which a call is lent the beginnings
 
@@ -213,8 +43,8 @@ fn build(
     lengths: &mut [u32],
 ) {
     let built = kept::build(n, c, tree, matrix, lows, highs, lengths);
-    put_built(name, built);
-    put_table(lows, highs, lengths);
+    writing::put_built(name, built);
+    writing::put_table(lows, highs, lengths);
 }
 
 fn lend_fresh(
@@ -252,9 +82,9 @@ fn build_fresh(n: usize, c: usize, tree: &[u16], matrix: &[u16], i: usize, j: us
         c,
         tree,
         matrix,
-        least(i, 2500),
-        least(j, 2500),
-        least(k, 2500),
+        reading::least(i, 2500),
+        reading::least(j, 2500),
+        reading::least(k, 2500),
         &mut lows,
         &mut highs,
         &mut lengths,
@@ -287,9 +117,9 @@ fn ask_character(
         final_lows,
         final_highs,
     );
-    put_length(b"\n  character ", length);
-    put_digest(b" final lows=", final_lows);
-    put_digest(b" final highs=", final_highs);
+    writing::put_length(b"\n  character ", length);
+    writing::put_digest(b" final lows=", final_lows);
+    writing::put_digest(b" final highs=", final_highs);
 }
 
 fn lend_finals(
@@ -335,7 +165,7 @@ fn ask(
     lengths: &[u32],
 ) {
     let length = kept::kept_length(n, c, tree, matrix, lows, highs, lengths);
-    put_length(b"\n  tree ", length);
+    writing::put_length(b"\n  tree ", length);
     let mut final_lows = room(60000);
     let mut final_highs = room(60000);
     lend_finals(
@@ -347,8 +177,8 @@ fn ask(
         lows,
         highs,
         lengths,
-        least(i, 2500),
-        least(j, 2500),
+        reading::least(i, 2500),
+        reading::least(j, 2500),
         &mut final_lows,
         &mut final_highs,
     );
@@ -368,11 +198,11 @@ fn correct(
     highs: &mut [u16],
     lengths: &mut [u32],
 ) -> usize {
-    let taxon = next_number(text, at);
-    let character = next_number(text, taxon.next);
-    let state = next_number(text, character.next);
-    let i = next_number(text, state.next);
-    let j = next_number(text, i.next);
+    let taxon = reading::next_number(text, at);
+    let character = reading::next_number(text, taxon.next);
+    let state = reading::next_number(text, character.next);
+    let i = reading::next_number(text, state.next);
+    let j = reading::next_number(text, i.next);
     let count = kept::correct(
         n,
         c,
@@ -385,9 +215,9 @@ fn correct(
         highs,
         lengths,
     );
-    put_count(count);
-    put_digest(b" matrix=", matrix);
-    put_table(lows, highs, lengths);
+    writing::put_count(count);
+    writing::put_digest(b" matrix=", matrix);
+    writing::put_table(lows, highs, lengths);
     build_fresh(n, c, tree, matrix, lows.len(), highs.len(), lengths.len());
     ask(
         n,
@@ -415,14 +245,14 @@ fn corrections(
     highs: &mut [u16],
     lengths: &mut [u32],
 ) -> usize {
-    let count = next_number(text, at);
+    let count = reading::next_number(text, at);
     let mut next = count.next;
     let mut turns = count.value;
     while 0 < turns {
         next = correct(n, c, text, next, tree, matrix, lows, highs, lengths);
         turns -= 1;
     }
-    put_entries(lows, highs, lengths);
+    writing::put_entries(lows, highs, lengths);
     next
 }
 
@@ -438,15 +268,15 @@ fn make_table(
     highs: &mut [u16],
     lengths: &mut [u32],
 ) -> usize {
-    let given = next_number(text, at);
+    let given = reading::next_number(text, at);
     if given.value == 0 {
         build(b"", n, c, tree, matrix, lows, highs, lengths);
         io::write_all(STDOUT_FILENO, b"\n");
         return given.next;
     }
-    let after_lows = read_list(text, given.next, lows);
-    let after_highs = read_list(text, after_lows, highs);
-    read_lengths(text, after_highs, lengths)
+    let after_lows = reading::read_list(text, given.next, lows);
+    let after_highs = reading::read_list(text, after_lows, highs);
+    reading::read_lengths(text, after_highs, lengths)
 }
 
 fn table_and_corrections(
@@ -460,8 +290,8 @@ fn table_and_corrections(
     highs: &mut [u16],
     lengths: &mut [u32],
 ) -> usize {
-    let after_tree = read_list(text, at, tree);
-    let after_matrix = read_list(text, after_tree, matrix);
+    let after_tree = reading::read_list(text, at, tree);
+    let after_matrix = reading::read_list(text, after_tree, matrix);
     let after_table = make_table(n, c, text, after_matrix, tree, matrix, lows, highs, lengths);
     corrections(n, c, text, after_table, tree, matrix, lows, highs, lengths)
 }
@@ -498,10 +328,10 @@ fn lend(
 }
 
 fn one_table(text: &[u8], at: usize) -> usize {
-    let n = next_number(text, at);
-    let c = next_number(text, n.next);
+    let n = reading::next_number(text, at);
+    let c = reading::next_number(text, n.next);
     let mut lens = [0u16; 5];
-    let next = read_list(text, c.next, &mut lens);
+    let next = reading::read_list(text, c.next, &mut lens);
     let mut tree = room(0);
     let mut matrix = room(0);
     let mut lows = room(11);
@@ -512,11 +342,11 @@ fn one_table(text: &[u8], at: usize) -> usize {
         wide(c.value),
         text,
         next,
-        least(wide(lens[0]), 2500),
-        least(wide(lens[1]), 2500),
-        least(wide(lens[2]), 2500),
-        least(wide(lens[3]), 2500),
-        least(wide(lens[4]), 2500),
+        reading::least(wide(lens[0]), 2500),
+        reading::least(wide(lens[1]), 2500),
+        reading::least(wide(lens[2]), 2500),
+        reading::least(wide(lens[3]), 2500),
+        reading::least(wide(lens[4]), 2500),
         &mut tree,
         &mut matrix,
         &mut lows,

@@ -3,8 +3,8 @@
 use borrow.Author.Needs.{needs}
 use Prim.Native.Nat.{_-_, _≤_, _<_}
 use lib.ListN.{length}
-use Rattle.run_kept.proofs.put_digest.Statement.{statement}
-use Rattle.run_kept.proofs.put_digest.Tie as tie
+use Rattle.run_kept.proofs.writing.put_length_digest.Statement.{statement}
+use Rattle.run_kept.proofs.writing.put_length_digest.Tie as tie
 
 abbrev Inv-loop : tie.InvT-loop
 Inv-loop name values sum₀ k₀ sum k = (k ≤ length values) × (sum < 65521)
@@ -15,14 +15,11 @@ abbrev μ-loop : tie.MeasureT-loop
 loop-holds : tie.Need-loop-holds Inv-loop μ-loop
 loop-holds c = search needs
 
-mul-state : tie.Need-mul-state Inv-loop μ-loop
-mul-state c = search needs
+mul-with-entry : tie.Need-mul-with-entry Inv-loop μ-loop
+mul-with-entry c = search needs
 
-shared-slice-read-state : tie.Need-shared-slice-read-state Inv-loop μ-loop
-shared-slice-read-state c = search needs
-
-state-requires : tie.Need-state-requires Inv-loop μ-loop
-state-requires c κs = search needs
+shared-slice-read-with-entry : tie.Need-shared-slice-read-with-entry Inv-loop μ-loop
+shared-slice-read-with-entry c = search needs
 
 with-entry-requires : tie.Need-with-entry-requires Inv-loop μ-loop
 with-entry-requires c κs = search needs
@@ -42,16 +39,15 @@ put-requires c κs = search needs
 returns : tie.Need-returns Inv-loop μ-loop
 returns c = search needs
 
-pub put-digest-spec : {M : Type 1} → statement M
-put-digest-spec =
+pub put-length-digest-spec : {M : Type 1} → statement M
+put-length-digest-spec =
     tie.close
     (tie.spec
     Inv-loop
     μ-loop
     loop-holds
-    mul-state
-    shared-slice-read-state
-    state-requires
+    mul-with-entry
+    shared-slice-read-with-entry
     with-entry-requires
     add-k
     loop-less

@@ -4,8 +4,8 @@ use borrow.Author.Needs.{needs}
 use mathlib.Core.Path.{_≡_, refl}
 use Prim.Native.Nat.{_-_}
 use lib.ListN.{length, length-set}
-use Rattle.run_kept.proofs.read_lengths.Statement.{statement}
-use Rattle.run_kept.proofs.read_lengths.Tie as tie
+use Rattle.run_kept.proofs.reading.read_lengths.Statement.{statement}
+use Rattle.run_kept.proofs.reading.read_lengths.Tie as tie
 
 abbrev Inv-loop : tie.InvT-loop
 Inv-loop text at list₀ next₀ k₀ list next k = length list ≡ length list₀

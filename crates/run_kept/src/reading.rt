@@ -1,0 +1,63 @@
+// Numbers and lists of numbers out of the input.
+ghost use mathlib.Core.Path.{_≡_};
+ghost use Prim.Native.Nat.{min};
+use numbers::Parsed;
+
+// A number, and the position after the byte that follows it.
+pub struct Number {
+    pub value: u16,
+    pub next: usize,
+}
+
+fn after(text: &[u8], at: usize) -> usize {
+    if at < text.len() { at + 1 } else { at }
+}
+
+pub fn next_number(text: &[u8], at: usize) -> Number {
+    let got = numbers::number(text, at);
+    match got {
+        Parsed::Bad => Number {
+            value: 0,
+            next: text.len(),
+        },
+        Parsed::Value(value, next) => Number {
+            value,
+            next: after(text, next),
+        },
+    }
+}
+
+pub fn read_list(text: &[u8], at: usize, list: &mut [u16]) -> usize {
+    let mut next = at;
+    let mut k: usize = 0;
+    while k < list.len() {
+        let entry = next_number(text, next);
+        list[k] = entry.value;
+        next = entry.next;
+        k += 1;
+    }
+    next
+}
+
+fn joined(above: u16, rest: u16) -> u32 {
+    (above as u32) * 65536 + (rest as u32)
+}
+
+pub fn read_lengths(text: &[u8], at: usize, list: &mut [u32]) -> usize {
+    let mut next = at;
+    let mut k: usize = 0;
+    while k < list.len() {
+        let above = next_number(text, next);
+        let rest = next_number(text, above.next);
+        list[k] = joined(above.value, rest.value);
+        next = rest.next;
+        k += 1;
+    }
+    next
+}
+
+pub fn least(a: usize, b: usize) -> usize
+    ensures { λ r. ⌜ r ≡ min a b ⌝ }
+{
+    if a < b { a } else { b }
+}
