@@ -21,11 +21,12 @@ limit = 4294967296
 abbrev pub code : Refusal → ℕ
 code q = q .number * 4294967296 + q .place
 
--- an index: over and under; under 0 is none
+-- what stands over the line of an index; 0 if there is none
 abbrev pub over : Index → ℕ
 over (Fraction a b) = a
 over None = 0
 
+-- what stands under it; 0 says that there is no index
 abbrev pub under : Index → ℕ
 under (Fraction a b) = b
 under None = 0
@@ -62,6 +63,7 @@ pub data Reply : Type 0 where
   number : ℕ → Reply
   refused : Refusal → Reply
 
+-- as one number: itself, or the refusal
 abbrev pub coded : Reply → ℕ
 coded (number k) = k
 coded (refused q) = code q

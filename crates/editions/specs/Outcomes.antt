@@ -37,6 +37,7 @@ lent n c tree matrix rest = record { has = tree; asked = 2 * n - 2 } ∷ record 
 
 -- ---- all characters: tree 1, matrix 2, result 3
 
+-- scores as `all_characters` answers them, and a result slice of seven; or a refusal by its checks, with the result slice among them
 abbrev pub TreeAnswers : (n c : ℕ) (tree matrix result : List ℕ) → Answer → Type 0
 TreeAnswers n c tree matrix result (answer.Scores s) = (length result ≡ 7) × AllAnswers n c tree matrix (answer.Scores s)
 TreeAnswers n c tree matrix result (answer.Refused q) = Refuses (matrixChecks n c tree matrix (sevenSlice (length result) ∷ [])) q
@@ -48,6 +49,7 @@ pub record TreeOutcome (n c : ℕ) (tree matrix result result′ : List ℕ) (r 
 
 -- ---- one character: tree 1, matrix 2, the six slices of `Results` 3 to 8, result 9
 
+-- the same of `one_character`; a refusal changes none of the six slices
 abbrev pub CharacterAnswers : (n c j : ℕ) → Resolve → (tree matrix : List ℕ) (before after : Results) (result : List ℕ) → Answer → Type 0
 CharacterAnswers n c j resolve tree matrix before after result (answer.Scores s) =
     (length result ≡ 7) × OneAnswers n c j resolve tree matrix before after (answer.Scores s)

@@ -20,6 +20,7 @@ use Rattle.sheet_answers.specs.Replies.{GivesSheet, sheetSlices, ofReport}
 abbrev pub readChecks : (text tree matrix result : List ℕ) → List {1} Check
 readChecks text tree matrix result = slices 1 (sheetSlices (length tree) (length matrix) (length result)) ++ textChecks text
 
+-- a sheet as `read_sheet` reads it, and a result slice of three; or a refusal, with the result slice among its checks, and nothing is changed
 abbrev pub SheetAnswers : (text tree matrix result tree′ matrix′ : List ℕ) → SheetAnswer → Type 0
 SheetAnswers text tree matrix result tree′ matrix′ (Read n c r) = (length result ≡ 3) × Reads text tree matrix n c r tree′ matrix′
 SheetAnswers text tree matrix result tree′ matrix′ (Refused q) =

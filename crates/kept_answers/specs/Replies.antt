@@ -8,14 +8,17 @@ use Rattle.kept.specs.declared.Built.{Built}
 use Rattle.kept.specs.declared.Built.the-variants as built
 use Rattle.answers.specs.Coded.{Reply, number, refused}
 
+-- 0 for a table that is built
 abbrev pub ofBuilt : Built → Reply
 ofBuilt built.Done = number 0
 ofBuilt (built.Refused q) = refused q
 
+-- the count of a correction
 abbrev pub ofCount : Count → Reply
 ofCount (count.Rewritten k) = number k
 ofCount (count.Refused q) = refused q
 
+-- a length
 abbrev pub ofLength : Length → Reply
 ofLength (length′.Length l) = number l
 ofLength (length′.Refused q) = refused q

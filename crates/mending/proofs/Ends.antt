@@ -47,7 +47,8 @@ module _ (n c j t count : ℕ) (tree matrix left right path lows₀ highs₀ len
         length-long = D .length-long;
         off = λ v lo hi z. D .others v lo hi (λ h m e. not-below v h (omega (arith, D .turns)) e z);
         on = λ v lo hi z. let (h, m, e) = path-all T t v lo z in
-            subst (Settled ordered tree (ranges n (stateOf matrix c j) lows highs) (sizes n (stateOf matrix c j) lengths)) e (D .settled h (omega (arith, M .counts)));
+            subst (Settled ordered tree (ranges n (stateOf matrix c j) lows highs) (sizes n (stateOf matrix c j) lengths)) e
+            (D .settled h (omega (arith, M .counts)));
         fits = λ v lo hi z. let (h, m, e) = path-all T t v lo z in
             subst (λ u. atNode n lows u ≤ atNode n highs u) e (D .fits h (omega (arith, M .counts)));
       }

@@ -9,10 +9,12 @@ pub struct Number {
     pub next: usize,
 }
 
+// The position after the byte that follows a number.
 fn after(text: &[u8], at: usize) -> usize {
     if at < text.len() { at + 1 } else { at }
 }
 
+// The number at a position. What is no number is read as 0, and ends the text.
 pub fn next_number(text: &[u8], at: usize) -> Number {
     let got = numbers::number(text, at);
     match got {
@@ -27,6 +29,7 @@ pub fn next_number(text: &[u8], at: usize) -> Number {
     }
 }
 
+// Fills a list with the numbers from a position on, and answers the position after them.
 pub fn read_list(text: &[u8], at: usize, list: &mut [u16]) -> usize {
     let mut next = at;
     let mut k: usize = 0;
@@ -39,10 +42,12 @@ pub fn read_list(text: &[u8], at: usize, list: &mut [u16]) -> usize {
     next
 }
 
+// A number of 32 bits, from its 65536ths and the rest.
 fn joined(above: u16, rest: u16) -> u32 {
     (above as u32) * 65536 + (rest as u32)
 }
 
+// The same for lengths, of which each is two numbers.
 pub fn read_lengths(text: &[u8], at: usize, list: &mut [u32]) -> usize {
     let mut next = at;
     let mut k: usize = 0;
@@ -56,6 +61,7 @@ pub fn read_lengths(text: &[u8], at: usize, list: &mut [u32]) -> usize {
     next
 }
 
+// The smaller of two numbers.
 pub fn least(a: usize, b: usize) -> usize
     ensures { λ r. ⌜ r ≡ min a b ⌝ }
 {

@@ -7,16 +7,19 @@ use refusals::Refusal;
 use refusals::wide;
 use tallies::Length;
 
+// A name and a number.
 fn put(name: &[u8], number: u64) {
     io::write_all(STDOUT_FILENO, name);
     io::print_decimal(STDOUT_FILENO, number);
 }
 
+// The number and the place of a refusal.
 fn put_refusal(refusal: Refusal) {
     put(b"refused=", refusal.number as u64);
     put(b",", refusal.place as u64);
 }
 
+// What building a table answered, after a name.
 pub fn put_built(name: &[u8], built: Built) {
     io::write_all(STDOUT_FILENO, name);
     match built {
@@ -27,6 +30,7 @@ pub fn put_built(name: &[u8], built: Built) {
     }
 }
 
+// A length or a refusal, after a name.
 pub fn put_length(name: &[u8], length: Length) {
     io::write_all(STDOUT_FILENO, name);
     match length {
@@ -35,6 +39,7 @@ pub fn put_length(name: &[u8], length: Length) {
     }
 }
 
+// What a correction answered.
 pub fn put_count(count: Count) {
     match count {
         Count::Rewritten(rewritten) => put(b"rewritten=", rewritten as u64),
@@ -42,6 +47,7 @@ pub fn put_count(count: Count) {
     }
 }
 
+// A list of states, after a name.
 fn put_list(name: &[u8], values: &[u16]) {
     io::write_all(STDOUT_FILENO, name);
     let mut k: usize = 0;
@@ -56,6 +62,7 @@ fn long(x: u32) -> u64 {
     x as u64
 }
 
+// A list of lengths, after a name.
 fn put_lengths(name: &[u8], values: &[u32]) {
     io::write_all(STDOUT_FILENO, name);
     let mut k: usize = 0;
@@ -77,6 +84,7 @@ fn state(x: u16) -> u32 {
     x as u32
 }
 
+// The digest of a list of states, after a name.
 pub fn put_digest(name: &[u8], values: &[u16]) {
     let mut sum: u64 = 0;
     let mut k: usize = 0;
@@ -87,6 +95,7 @@ pub fn put_digest(name: &[u8], values: &[u16]) {
     put(name, sum);
 }
 
+// The digest of a list of lengths, after a name.
 fn put_length_digest(name: &[u8], values: &[u32]) {
     let mut sum: u64 = 0;
     let mut k: usize = 0;
@@ -97,12 +106,14 @@ fn put_length_digest(name: &[u8], values: &[u32]) {
     put(name, sum);
 }
 
+// The digests of a table.
 pub fn put_table(lows: &[u16], highs: &[u16], lengths: &[u32]) {
     put_digest(b" lows=", lows);
     put_digest(b" highs=", highs);
     put_length_digest(b" lengths=", lengths);
 }
 
+// A table of at most 40 entries, in full.
 pub fn put_entries(lows: &[u16], highs: &[u16], lengths: &[u32]) {
     if lows.len() <= 40 {
         put_list(b"lows", lows);

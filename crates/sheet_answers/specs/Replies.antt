@@ -14,6 +14,7 @@ use Rattle.answers.specs.Coded.{Reply, number, refused, Tells}
 
 -- ---- reading a sheet
 
+-- 0 for a sheet that is read
 abbrev pub ofSheet : SheetAnswer → Reply
 ofSheet (sheet.Read n c r) = number 0
 ofSheet (sheet.Refused q) = refused q
@@ -43,6 +44,7 @@ sheetSlices tree matrix result = record { has = tree; asked = 510 } ∷ record {
 
 -- ---- the report of a sheet
 
+-- the number of bytes of a report
 abbrev pub ofReport : ReportAnswer → Reply
 ofReport (report.Written size) = number size
 ofReport (report.Refused q) = refused q
