@@ -5,6 +5,18 @@
 use crate::raw;
 use crate::{Refusal, Resolve, Scores};
 
+/// A C function: its numbers, then each slice that is read and each that is written, as a pointer and a length.
+///
+/// Safe to call here: every pointer and length is of one borrowed slice, and what is written is borrowed mutably.
+macro_rules! c_function {
+    ($function:ident($($number:expr),*; $($read:ident),*; $($written:ident),*)) => {
+        // SAFETY: as said above.
+        unsafe {
+            raw::$function($($number,)* $($read.as_ptr(), $read.len(),)* $($written.as_mut_ptr(), $written.len()),*)
+        }
+    };
+}
+
 /// The slices that [`character`] writes: an entry for each interior node, n-2 in all, node n+1 first.
 #[derive(Debug)]
 pub struct Found<'a> {
@@ -44,65 +56,24 @@ pub struct Found<'a> {
 pub fn character(n: usize, c: usize, character: usize, resolve: Resolve, tree: &[u16], matrix: &[u16], found: Found<'_>) -> Result<Scores, Refusal> {
     let Found { first_low, first_high, subtree, final_low, final_high, states } = found;
     let mut result = [0; 7];
-    // SAFETY: every pointer and length is of one borrowed slice, and what is written is borrowed mutably.
-    let value = unsafe {
-        raw::badrumello_character(
-            n as u64,
-            c as u64,
-            character as u64,
-            resolve.number(),
-            tree.as_ptr(),
-            tree.len(),
-            matrix.as_ptr(),
-            matrix.len(),
-            first_low.as_mut_ptr(),
-            first_low.len(),
-            first_high.as_mut_ptr(),
-            first_high.len(),
-            subtree.as_mut_ptr(),
-            subtree.len(),
-            final_low.as_mut_ptr(),
-            final_low.len(),
-            final_high.as_mut_ptr(),
-            final_high.len(),
-            states.as_mut_ptr(),
-            states.len(),
-            result.as_mut_ptr(),
-            result.len(),
-        )
-    };
+    let value = c_function!(badrumello_character(
+        n as u64, c as u64, character as u64, resolve.number();
+        tree, matrix;
+        first_low, first_high, subtree, final_low, final_high, states, result
+    ));
     Refusal::read(value).map(|_| Scores::read(result))
 }
 
 /// All characters afresh: the scores of the tree. Refusals: 1 to 7.
 pub fn tree(n: usize, c: usize, tree: &[u16], matrix: &[u16]) -> Result<Scores, Refusal> {
     let mut result = [0; 7];
-    // SAFETY: as in `character`.
-    let value = unsafe {
-        raw::badrumello_tree(n as u64, c as u64, tree.as_ptr(), tree.len(), matrix.as_ptr(), matrix.len(), result.as_mut_ptr(), result.len())
-    };
+    let value = c_function!(badrumello_tree(n as u64, c as u64; tree, matrix; result));
     Refusal::read(value).map(|_| Scores::read(result))
 }
 
 /// Builds a kept table: three slices of (n-2)c entries, character 1 first, and of each character node n+1 first. Refusals: 1 to 7.
 pub fn build(n: usize, c: usize, tree: &[u16], matrix: &[u16], low: &mut [u16], high: &mut [u16], lengths: &mut [u32]) -> Result<(), Refusal> {
-    // SAFETY: as in `character`.
-    let value = unsafe {
-        raw::badrumello_build(
-            n as u64,
-            c as u64,
-            tree.as_ptr(),
-            tree.len(),
-            matrix.as_ptr(),
-            matrix.len(),
-            low.as_mut_ptr(),
-            low.len(),
-            high.as_mut_ptr(),
-            high.len(),
-            lengths.as_mut_ptr(),
-            lengths.len(),
-        )
-    };
+    let value = c_function!(badrumello_build(n as u64, c as u64; tree, matrix; low, high, lengths));
     Refusal::read(value).map(|_| ())
 }
 
@@ -121,48 +92,17 @@ pub fn correct(
     high: &mut [u16],
     lengths: &mut [u32],
 ) -> Result<usize, Refusal> {
-    // SAFETY: as in `character`.
-    let value = unsafe {
-        raw::badrumello_correct(
-            n as u64,
-            c as u64,
-            taxon as u64,
-            character as u64,
-            state,
-            tree.as_ptr(),
-            tree.len(),
-            matrix.as_mut_ptr(),
-            matrix.len(),
-            low.as_mut_ptr(),
-            low.len(),
-            high.as_mut_ptr(),
-            high.len(),
-            lengths.as_mut_ptr(),
-            lengths.len(),
-        )
-    };
+    let value = c_function!(badrumello_correct(
+        n as u64, c as u64, taxon as u64, character as u64, state;
+        tree;
+        matrix, low, high, lengths
+    ));
     Refusal::read(value).map(|count| count as usize)
 }
 
 /// The length of the tree, from a kept table. Refusals: 1 to 7, and 10 in any entry.
 pub fn kept_length(n: usize, c: usize, tree: &[u16], matrix: &[u16], low: &[u16], high: &[u16], lengths: &[u32]) -> Result<u32, Refusal> {
-    // SAFETY: as in `character`.
-    let value = unsafe {
-        raw::badrumello_kept_length(
-            n as u64,
-            c as u64,
-            tree.as_ptr(),
-            tree.len(),
-            matrix.as_ptr(),
-            matrix.len(),
-            low.as_ptr(),
-            low.len(),
-            high.as_ptr(),
-            high.len(),
-            lengths.as_ptr(),
-            lengths.len(),
-        )
-    };
+    let value = c_function!(badrumello_kept_length(n as u64, c as u64; tree, matrix, low, high, lengths;));
     Refusal::read(value)
 }
 
@@ -181,28 +121,11 @@ pub fn kept_character(
     final_low: &mut [u16],
     final_high: &mut [u16],
 ) -> Result<u32, Refusal> {
-    // SAFETY: as in `character`.
-    let value = unsafe {
-        raw::badrumello_kept_character(
-            n as u64,
-            c as u64,
-            character as u64,
-            tree.as_ptr(),
-            tree.len(),
-            matrix.as_ptr(),
-            matrix.len(),
-            low.as_ptr(),
-            low.len(),
-            high.as_ptr(),
-            high.len(),
-            lengths.as_ptr(),
-            lengths.len(),
-            final_low.as_mut_ptr(),
-            final_low.len(),
-            final_high.as_mut_ptr(),
-            final_high.len(),
-        )
-    };
+    let value = c_function!(badrumello_kept_character(
+        n as u64, c as u64, character as u64;
+        tree, matrix, low, high, lengths;
+        final_low, final_high
+    ));
     Refusal::read(value)
 }
 
@@ -221,19 +144,7 @@ pub struct Head {
 /// fills keep their values. Refusals: 2, 12, 11 and 1, in this order.
 pub fn read_sheet(text: &[u8], tree: &mut [u16], matrix: &mut [u16]) -> Result<Head, Refusal> {
     let mut result = [0; 3];
-    // SAFETY: as in `character`.
-    let value = unsafe {
-        raw::badrumello_read_sheet(
-            text.as_ptr(),
-            text.len(),
-            tree.as_mut_ptr(),
-            tree.len(),
-            matrix.as_mut_ptr(),
-            matrix.len(),
-            result.as_mut_ptr(),
-            result.len(),
-        )
-    };
+    let value = c_function!(badrumello_read_sheet(; text; tree, matrix, result));
     Refusal::read(value)?;
     let [n, c, resolve] = result;
     Ok(Head { n: n as usize, c: c as usize, resolve: if resolve == 0 { Resolve::Acctran } else { Resolve::Deltran } })
@@ -242,7 +153,6 @@ pub fn read_sheet(text: &[u8], tree: &mut [u16], matrix: &mut [u16]) -> Result<H
 /// Writes the report of a sheet into a slice of [`crate::REPORT_BYTES`] and answers its number of bytes; bytes past it keep their values. A refused
 /// sheet has a report of one line. Refusal: 2.
 pub fn report(text: &[u8], out: &mut [u8]) -> Result<usize, Refusal> {
-    // SAFETY: as in `character`.
-    let value = unsafe { raw::badrumello_report(text.as_ptr(), text.len(), out.as_mut_ptr(), out.len()) };
+    let value = c_function!(badrumello_report(; text; out));
     Refusal::read(value).map(|bytes| bytes as usize)
 }

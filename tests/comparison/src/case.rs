@@ -41,6 +41,13 @@ pub struct Case {
     pub lent: Buffers,
 }
 
+/// A C function: its numbers, and then each laid slice as a pointer and a length.
+macro_rules! c_function {
+    ($function:ident($($number:expr),*; $($slice:ident),*)) => {
+        raw::$function($($number,)* $($slice.pointer(), $slice.len()),*)
+    };
+}
+
 impl Case {
     /// What document 01 says: the number, and the slices after the call.
     pub fn expected(&self) -> (u64, Buffers) {
@@ -99,108 +106,20 @@ impl Case {
         // SAFETY: each slice is an allocation, or a part of one, of its own.
         let value = unsafe {
             match self.call {
-                Call::Character { n, c, character, resolve } => raw::badrumello_character(
-                    n,
-                    c,
-                    character,
-                    resolve,
-                    tree.pointer(),
-                    tree.len(),
-                    matrix.pointer(),
-                    matrix.len(),
-                    first_low.pointer(),
-                    first_low.len(),
-                    first_high.pointer(),
-                    first_high.len(),
-                    subtree.pointer(),
-                    subtree.len(),
-                    final_low.pointer(),
-                    final_low.len(),
-                    final_high.pointer(),
-                    final_high.len(),
-                    states.pointer(),
-                    states.len(),
-                    result.pointer(),
-                    result.len(),
-                ),
-                Call::Tree { n, c } => {
-                    raw::badrumello_tree(n, c, tree.pointer(), tree.len(), matrix.pointer(), matrix.len(), result.pointer(), result.len())
+                Call::Character { n, c, character, resolve } => c_function!(badrumello_character(
+                    n, c, character, resolve; tree, matrix, first_low, first_high, subtree, final_low, final_high, states, result
+                )),
+                Call::Tree { n, c } => c_function!(badrumello_tree(n, c; tree, matrix, result)),
+                Call::Build { n, c } => c_function!(badrumello_build(n, c; tree, matrix, low, high, lengths)),
+                Call::Correct { n, c, taxon, character, state } => {
+                    c_function!(badrumello_correct(n, c, taxon, character, state; tree, matrix, low, high, lengths))
                 }
-                Call::Build { n, c } => raw::badrumello_build(
-                    n,
-                    c,
-                    tree.pointer(),
-                    tree.len(),
-                    matrix.pointer(),
-                    matrix.len(),
-                    low.pointer(),
-                    low.len(),
-                    high.pointer(),
-                    high.len(),
-                    lengths.pointer(),
-                    lengths.len(),
-                ),
-                Call::Correct { n, c, taxon, character, state } => raw::badrumello_correct(
-                    n,
-                    c,
-                    taxon,
-                    character,
-                    state,
-                    tree.pointer(),
-                    tree.len(),
-                    matrix.pointer(),
-                    matrix.len(),
-                    low.pointer(),
-                    low.len(),
-                    high.pointer(),
-                    high.len(),
-                    lengths.pointer(),
-                    lengths.len(),
-                ),
-                Call::KeptLength { n, c } => raw::badrumello_kept_length(
-                    n,
-                    c,
-                    tree.pointer(),
-                    tree.len(),
-                    matrix.pointer(),
-                    matrix.len(),
-                    low.pointer(),
-                    low.len(),
-                    high.pointer(),
-                    high.len(),
-                    lengths.pointer(),
-                    lengths.len(),
-                ),
-                Call::KeptCharacter { n, c, character } => raw::badrumello_kept_character(
-                    n,
-                    c,
-                    character,
-                    tree.pointer(),
-                    tree.len(),
-                    matrix.pointer(),
-                    matrix.len(),
-                    low.pointer(),
-                    low.len(),
-                    high.pointer(),
-                    high.len(),
-                    lengths.pointer(),
-                    lengths.len(),
-                    final_low.pointer(),
-                    final_low.len(),
-                    final_high.pointer(),
-                    final_high.len(),
-                ),
-                Call::ReadSheet => raw::badrumello_read_sheet(
-                    text.pointer(),
-                    text.len(),
-                    tree.pointer(),
-                    tree.len(),
-                    matrix.pointer(),
-                    matrix.len(),
-                    result.pointer(),
-                    result.len(),
-                ),
-                Call::Report => raw::badrumello_report(text.pointer(), text.len(), out.pointer(), out.len()),
+                Call::KeptLength { n, c } => c_function!(badrumello_kept_length(n, c; tree, matrix, low, high, lengths)),
+                Call::KeptCharacter { n, c, character } => {
+                    c_function!(badrumello_kept_character(n, c, character; tree, matrix, low, high, lengths, final_low, final_high))
+                }
+                Call::ReadSheet => c_function!(badrumello_read_sheet(; text, tree, matrix, result)),
+                Call::Report => c_function!(badrumello_report(; text, out)),
             }
         };
         let accepted = value >> 32 == 0;

@@ -179,53 +179,34 @@ fn other_number(random: &mut Random, most: u64) -> u64 {
     }
 }
 
-fn other_length<T: Copy + Default>(random: &mut Random, slice: &mut Vec<T>) {
-    match random.below(4) {
-        0 => slice.push(T::default()),
-        1 => drop(slice.pop()),
-        2 => slice.clear(),
-        _ => slice.resize(slice.len() + random.between(1, 9), T::default()),
+/// A lent slice, whatever its entries are.
+trait Slice {
+    /// Gives it another length.
+    fn other_length(&mut self, random: &mut Random);
+}
+
+impl<T: Copy + Default> Slice for Vec<T> {
+    fn other_length(&mut self, random: &mut Random) {
+        match random.below(4) {
+            0 => self.push(T::default()),
+            1 => drop(self.pop()),
+            2 => self.clear(),
+            _ => self.resize(self.len() + random.between(1, 9), T::default()),
+        }
     }
 }
 
 pub(crate) fn damage_length(random: &mut Random, case: &mut Case) {
-    let lent = &mut case.lent;
-    let kept = |random: &mut Random, lent: &mut Buffers, slice: usize| match slice {
-        0 => other_length(random, &mut lent.tree),
-        1 => other_length(random, &mut lent.matrix),
-        2 => other_length(random, &mut lent.low),
-        3 => other_length(random, &mut lent.high),
-        4 => other_length(random, &mut lent.lengths),
-        5 => other_length(random, &mut lent.final_low),
-        _ => other_length(random, &mut lent.final_high),
+    let Buffers { tree, matrix, first_low, first_high, subtree, final_low, final_high, states, low, high, lengths, result, out, .. } = &mut case.lent;
+    let mut slices: Vec<&mut dyn Slice> = match case.call {
+        Call::Character { .. } => vec![tree, matrix, first_low, first_high, subtree, final_low, final_high, states, result],
+        Call::Tree { .. } | Call::ReadSheet => vec![tree, matrix, result],
+        Call::Build { .. } | Call::Correct { .. } | Call::KeptLength { .. } => vec![tree, matrix, low, high, lengths],
+        Call::KeptCharacter { .. } => vec![tree, matrix, low, high, lengths, final_low, final_high],
+        Call::Report => return out.other_length(random),
     };
-    match case.call {
-        Call::Character { .. } => match random.below(9) {
-            0 => other_length(random, &mut lent.tree),
-            1 => other_length(random, &mut lent.matrix),
-            2 => other_length(random, &mut lent.first_low),
-            3 => other_length(random, &mut lent.first_high),
-            4 => other_length(random, &mut lent.subtree),
-            5 => other_length(random, &mut lent.final_low),
-            6 => other_length(random, &mut lent.final_high),
-            7 => other_length(random, &mut lent.states),
-            _ => other_length(random, &mut lent.result),
-        },
-        Call::Tree { .. } | Call::ReadSheet => match random.below(3) {
-            0 => other_length(random, &mut lent.tree),
-            1 => other_length(random, &mut lent.matrix),
-            _ => other_length(random, &mut lent.result),
-        },
-        Call::Build { .. } | Call::Correct { .. } | Call::KeptLength { .. } => {
-            let slice = random.below(5);
-            kept(random, lent, slice);
-        }
-        Call::KeptCharacter { .. } => {
-            let slice = random.below(7);
-            kept(random, lent, slice);
-        }
-        Call::Report => other_length(random, &mut lent.out),
-    }
+    let damaged = random.below(slices.len());
+    slices[damaged].other_length(random);
 }
 
 /// Something wrong with a tree table; now and then it stays a tree.

@@ -62,6 +62,14 @@ fn sizes<const K: usize>(n: u64, c: u64, lengths: impl Fn(usize, usize) -> [(usi
     }
 }
 
+/// The same for tree, matrix and the three slices of a kept table, which have these lengths.
+fn table_sizes(n: u64, c: u64, [tree, matrix, low, high, lengths]: [usize; 5]) -> Result<(usize, usize), Refusal> {
+    sizes(n, c, |n, c| {
+        let kept = (n - 2) * c;
+        [(tree, 2 * n - 2), (matrix, n * c), (low, kept), (high, kept), (lengths, kept)]
+    })
+}
+
 /// 7 in all cells.
 fn all_states(matrix: &[u16]) -> Result<(), Refusal> {
     match matrix.iter().position(|&state| state > HIGHEST_STATE) {
@@ -214,10 +222,7 @@ pub fn tree(n: u64, c: u64, tree: &[u16], matrix: &[u16], result: &mut [u32]) ->
 // ---- the kept table
 
 pub fn build(n: u64, c: u64, tree: &[u16], matrix: &[u16], low: &mut [u16], high: &mut [u16], lengths: &mut [u32]) -> Answer {
-    let (n, c) = sizes(n, c, |n, c| {
-        let kept = (n - 2) * c;
-        [(tree.len(), 2 * n - 2), (matrix.len(), n * c), (low.len(), kept), (high.len(), kept), (lengths.len(), kept)]
-    })?;
+    let (n, c) = table_sizes(n, c, [tree.len(), matrix.len(), low.len(), high.len(), lengths.len()])?;
     let tree = Tree::accept(n, tree)?;
     all_states(matrix)?;
 
@@ -282,10 +287,7 @@ pub fn correct(
     high: &mut [u16],
     lengths: &mut [u32],
 ) -> Answer {
-    let (n, c) = sizes(n, c, |n, c| {
-        let kept = (n - 2) * c;
-        [(tree.len(), 2 * n - 2), (matrix.len(), n * c), (low.len(), kept), (high.len(), kept), (lengths.len(), kept)]
-    })?;
+    let (n, c) = table_sizes(n, c, [tree.len(), matrix.len(), low.len(), high.len(), lengths.len()])?;
     let tree = Tree::accept(n, tree)?;
     let (taxon, character) = (numbered(taxon, n)?, numbered(character, c)?);
     let mut states = states_of(c, character, matrix)?;
@@ -324,10 +326,7 @@ pub fn correct(
 }
 
 pub fn kept_length(n: u64, c: u64, tree: &[u16], matrix: &[u16], low: &[u16], high: &[u16], lengths: &[u32]) -> Answer {
-    let (n, c) = sizes(n, c, |n, c| {
-        let kept = (n - 2) * c;
-        [(tree.len(), 2 * n - 2), (matrix.len(), n * c), (low.len(), kept), (high.len(), kept), (lengths.len(), kept)]
-    })?;
+    let (n, c) = table_sizes(n, c, [tree.len(), matrix.len(), low.len(), high.len(), lengths.len()])?;
     let tree = Tree::accept(n, tree)?;
     all_states(matrix)?;
     let part = |character: usize| Part { n, from: (character - 1) * (n - 2), low, high, lengths };
