@@ -63,24 +63,32 @@ module _ (node n w : ℕ) (tree : List ℕ) (ρ δ : ℕ) (left right lows highs
   pub nodes-few : length tree ≤ 510
   nodes-few = omega (arith, W .sized .nodes, W .sized .most)
 
+  -- from another node, over entries whose taxa are as they are to be
+  walks-from : (v : ℕ) → 1 ≤ v → v ≤ length tree → v ≢ ρ → (lows₁ highs₁ lengths₁ : List ℕ) → Room lows₁ highs₁ lengths₁
+      → ((i k : ℕ) → 1 ≤ i → i ≤ w → 1 ≤ k → k ≤ n → (stateOf lows₁ w i k ≤ stateOf highs₁ w i k) × (stateOf highs₁ w i k ≤ 9999))
+      → ((i k : ℕ) → 1 ≤ i → i ≤ w → 1 ≤ k → k ≤ n → stateOf lengths₁ w i k ≡ 0) → Walks v n w tree ρ δ left right lows₁ highs₁ lengths₁
+  walks-from v some most apart lows₁ highs₁ lengths₁ room fits none =
+      record {
+        sized = W .sized;
+        accepted = W .accepted;
+        shape = W .shape;
+        some = some;
+        most = most;
+        apart = apart;
+        room = room;
+        few = W .few;
+        fits = fits;
+        none = none;
+      }
+
   module _ (a b : ℕ) (lo : n < node) (D : descendants tree node ≡ a ∷ b ∷ []) where
     hi : node ≤ length tree
     hi = W .most
 
     pub walks-first : Walks a n w tree ρ δ left right lows highs lengths
     walks-first =
-        record {
-          sized = W .sized;
-          accepted = W .accepted;
-          shape = W .shape;
-          some = subtrees.some-first T node a b lo hi D .0;
-          most = subtrees.some-first T node a b lo hi D .1;
-          apart = subtrees.first-apart T node a b lo hi D;
-          room = W .room;
-          few = W .few;
-          fits = W .fits;
-          none = W .none;
-        }
+        let (s, m, _) = subtrees.some-first T node a b lo hi D in
+        walks-from a s m (subtrees.first-apart T node a b lo hi D) lows highs lengths (W .room) (W .fits) (W .none)
 
     pub first-allowed : (allowed : ℕ) → length tree < deep tree (length tree) node + allowed → length tree < deep tree (length tree) a + (allowed - 1)
     first-allowed allowed h =
@@ -90,21 +98,13 @@ module _ (node n w : ℕ) (tree : List ℕ) (ρ δ : ℕ) (left right lows highs
     module _ (lows₁ highs₁ lengths₁ : List ℕ) (A : WalkedIn a n w tree lows highs lengths lows₁ highs₁ lengths₁) where
       pub walks-second : Walks b n w tree ρ δ left right lows₁ highs₁ lengths₁
       walks-second =
-          record {
-            sized = W .sized;
-            accepted = W .accepted;
-            shape = W .shape;
-            some = subtrees.some-second T node a b lo hi D .0;
-            most = subtrees.some-second T node a b lo hi D .1;
-            apart = subtrees.second-apart T node a b lo hi D;
-            room = A .room;
-            few = W .few;
-            fits = λ i k p q r s.
-                let (x, y, z) = A .taxa i k p q r s in
-                let (f, g) = W .fits i k p q r s in
-                (omega arith, omega arith);
-            none = λ i k p q r s. A .taxa i k p q r s .2 ∙ W .none i k p q r s;
-          }
+          let (s, m, _) = subtrees.some-second T node a b lo hi D in
+          walks-from b s m (subtrees.second-apart T node a b lo hi D) lows₁ highs₁ lengths₁ (A .room)
+          (λ i k p q r s.
+          let (x, y, z) = A .taxa i k p q r s in
+          let (f, g) = W .fits i k p q r s in
+          (omega arith, omega arith))
+          (λ i k p q r s. A .taxa i k p q r s .2 ∙ W .none i k p q r s)
 
       pub second-allowed : (allowed : ℕ) → length tree < deep tree (length tree) node + allowed
           → length tree < deep tree (length tree) b + (allowed - 1)

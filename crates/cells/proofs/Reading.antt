@@ -4,8 +4,7 @@ use mathlib.Core.Path.{_≡_, ap}
 use mathlib.Core.List.{List}
 use Prim.Native.Nat.{ℕ, _+_, _-_, _*_, _≤_, _<_}
 use native.Mathlib.Nat.{mul-le-mul-right}
-use native.Mathlib.Decide.{decLe}
-use native.Mathlib.Omega.{arith}
+use native.Mathlib.Omega.{arith, by-contra}
 use lib.ListN.{length, getD}
 use Rattle.parsimony.specs.Matrix.{cellNumber, stateOf}
 use Rattle.parsimony.proofs.Matrices.{cell-in}
@@ -36,8 +35,4 @@ module _ (n c j : ℕ) (matrix : List ℕ) where
 
   -- and one that is not above 9999 is at most 9999
   pub states-small : Never (AboveIn matrix c j) n → (k : ℕ) → 1 ≤ k → k ≤ n → stateOf matrix c j k ≤ 9999
-  states-small N k p q = go (decLe (stateOf matrix c j k) 9999)
-    where
-      go : Dec (stateOf matrix c j k ≤ 9999) → stateOf matrix c j k ≤ 9999
-      go (yes l) = l
-      go (no l) = absurd (N k p q (omega arith))
+  states-small N k p q = by-contra (stateOf matrix c j k) 9999 (N k p q)

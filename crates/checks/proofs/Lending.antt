@@ -4,8 +4,8 @@ use mathlib.Core.Path.{_≡_, refl, sym, subst}
 use mathlib.Core.Logic.{_≢_, _⊎_, inl, inr, ⊎-elim}
 use mathlib.Core.List.{List, [], _∷_}
 use Prim.Native.Nat.{ℕ, suc, _≤_, _<_}
-use native.Mathlib.Decide.{ℕ-discrete, decLe}
-use native.Mathlib.Omega.{arith}
+use native.Mathlib.Decide.{ℕ-discrete}
+use native.Mathlib.Omega.{arith, by-contra}
 use Rattle.refusals.specs.Checks.{at, Clear, Slice}
 use Rattle.refusals.proofs.Order.{clear-slice}
 use Rattle.checks.specs.declared.Lent.{Lent}
@@ -34,18 +34,11 @@ exact-clear i has asked h = go (ℕ-discrete has asked)
 pub in-limits : (n c : ℕ) → (Outside n c → ⊥) → InLimits n c
 in-limits n c h =
     record {
-      least = reach 3 n (λ l. h (inl l));
-      most = reach n 256 (λ l. h (inr (inl l)));
-      some = reach 1 c (λ l. h (inr (inr (inl l))));
-      few = reach c 512 (λ l. h (inr (inr (inr l))));
+      least = by-contra 3 n (λ l. h (inl l));
+      most = by-contra n 256 (λ l. h (inr (inl l)));
+      some = by-contra 1 c (λ l. h (inr (inr (inl l))));
+      few = by-contra c 512 (λ l. h (inr (inr (inr l))));
     }
-  where
-    reach : (a b : ℕ) → (b < a → ⊥) → a ≤ b
-    reach a b f = go (decLe a b)
-      where
-        go : Dec (a ≤ b) → a ≤ b
-        go (yes l) = l
-        go (no l) = absurd (f (omega arith))
 
 pub not-outside : (n c : ℕ) → InLimits n c → Outside n c → ⊥
 not-outside n c L h =

@@ -6,8 +6,8 @@ use mathlib.Core.Bool.{Bool, true, false}
 use mathlib.Core.List.{List}
 use Prim.Native.Nat.{ℕ, suc, _+_, _-_, _*_, _≤_, _<_}
 use native.Mathlib.Nat.{mul-le-mul-right}
-use native.Mathlib.Decide.{ℕ-discrete, decLe}
-use native.Mathlib.Omega.{arith}
+use native.Mathlib.Decide.{ℕ-discrete}
+use native.Mathlib.Omega.{arith, by-contra}
 use lib.ListN.{length, getD, set, take, drop, length-set}
 use Rattle.parsimony.specs.Table.{ancestor}
 use Rattle.parsimony.specs.Character.{atNode}
@@ -27,14 +27,7 @@ not-bad low high l p q r h =
 
 -- an entry that is not bad is a range up to 9999, and a length up to the limit
 pub clean : (low high l : ℕ) → (Bad low high l → ⊥) → (low ≤ high) × (high ≤ 9999) × (l ≤ 5089491)
-clean low high l h = (at-most low high (λ b. h (inl b)), at-most high 9999 (λ b. h (inr (inl b))), at-most l 5089491 (λ b. h (inr (inr b))))
-  where
-    at-most : (a b : ℕ) → (b < a → ⊥) → a ≤ b
-    at-most a b g = go (decLe a b)
-      where
-        go : Dec (a ≤ b) → a ≤ b
-        go (yes m) = m
-        go (no m) = absurd (g (omega arith))
+clean low high l h = (by-contra low high (λ b. h (inl b)), by-contra high 9999 (λ b. h (inr (inl b))), by-contra l 5089491 (λ b. h (inr (inr b))))
 
 -- ---- one character
 

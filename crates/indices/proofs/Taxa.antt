@@ -12,20 +12,17 @@ use Rattle.parsimony.specs.Index.{highest, lowest}
 one-more : (t : ℕ) → 1 + t ≡ suc t
 one-more t = omega arith
 
+shift : (b s : ℕ) → suc b + s ≡ b + suc s
+shift b s = omega arith
+
 module _ (f : ℕ → ℕ) (v : ℕ) where
   highest-more : (a t : ℕ) → highest f v (from a (suc t)) ≡ max (highest f v (from a t)) (f (a + t))
   highest-more a zero = omega (arith, ap f (add-zero a))
   highest-more a (suc t) = omega (arith, highest-more (suc a) t, ap f (shift a t))
-    where
-      shift : (b s : ℕ) → suc b + s ≡ b + suc s
-      shift b s = omega arith
 
   lowest-more : (a t : ℕ) → lowest f v (from a (suc t)) ≡ min (lowest f v (from a t)) (f (a + t))
   lowest-more a zero = omega (arith, ap f (add-zero a))
   lowest-more a (suc t) = omega (arith, lowest-more (suc a) t, ap f (shift a t))
-    where
-      shift : (b s : ℕ) → suc b + s ≡ b + suc s
-      shift b s = omega arith
 
   pub highest-next : (t : ℕ) → highest f v (from 1 (t + 1)) ≡ max (highest f v (from 1 t)) (f (t + 1))
   highest-next t = rw (add-one t) (highest-more 1 t ∙ ap (λ k. max (highest f v (from 1 t)) (f k)) (one-more t))

@@ -44,13 +44,6 @@ continued-short k (v ∷ vs) (low, h) =
 
 -- with a comma for each number
 pub commas-short : (k : ℕ) (vs : List ℕ) → AllBelow (tens (suc k)) vs → length (commas vs) ≤ (k + 2) * length vs
-unfolding commas
+unfolding commas continued
 commas-short k [] h = omega (arith, mul-zero (k + 2))
-commas-short k (v ∷ vs) (low, h) =
-    omega (
-      arith,
-      length-append (decimal v) (continued vs),
-      decimal-short k v low,
-      continued-short k vs h,
-      mul-suc (k + 2) (length vs),
-    )
+commas-short k (v ∷ vs) h = omega (arith, continued-short k (v ∷ vs) h)
