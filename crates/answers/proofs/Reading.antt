@@ -7,7 +7,7 @@ use Prim.Native.Nat.{ℕ, zero, suc, _+_, _*_, _/_, _%_, _≤_, _<_}
 use native.Mathlib.Omega.{arith}
 use Rattle.refusals.specs.declared.Refusal.{Refusal}
 use Rattle.choices.specs.declared.Resolve.the-variants.{Deltran}
-use Rattle.characters.specs.declared.Scores.{Scores}
+use Rattle.scores.specs.declared.Scores.{Scores}
 use Rattle.characters.specs.declared.Answer.{Answer}
 use Rattle.characters.specs.declared.Answer.the-variants as answer
 use Rattle.answers.specs.Coded as reply

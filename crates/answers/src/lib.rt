@@ -1,10 +1,10 @@
 // An answer in C's way: one number, below 2^32 the answer and otherwise 2^32 times the number of the refusal and its place; and seven numbers in a
 // slice.
 use characters::Answer;
-use characters::Scores;
 use choices::Resolve;
 use indices::Index;
 use refusals::Refusal;
+use scores::Scores;
 ghost use mathlib.Core.Path.{_≡_};
 ghost use lib.ListN.{length};
 ghost use Prim.Native.Nat.{_<_};

@@ -1,7 +1,7 @@
--- From the checks to the passes: what a call knows once none of its checks applies.
+-- From the checks to the scores: what a call knows once none of its checks applies.
 -- Assumes nothing.
-use mathlib.Core.Path.{_≡_, refl, sym, _∙_, subst}
-use mathlib.Core.List.{List, [], _∷_}
+use mathlib.Core.Path.{_≡_}
+use mathlib.Core.List.{List, []}
 use Prim.Native.Nat.{ℕ, _-_, _*_, _≤_}
 use native.Mathlib.Omega.{arith}
 use lib.ListN.{length}
@@ -10,12 +10,9 @@ use Rattle.parsimony.specs.Matrix.{stateOf}
 use Rattle.refusals.specs.declared.Refusal.{Refusal}
 use Rattle.refusals.specs.Search.{Never}
 use Rattle.refusals.specs.Checks.{Refuses, Passes, slices, Slice}
-use Rattle.parsimony.specs.Lists.{sum, from}
-use Rattle.parsimony.specs.Index as index
 use Rattle.cells.specs.Above.{AboveAt}
 use Rattle.cells.proofs.Reading.{none-above, states-small}
-use Rattle.indices.proofs.Most.{m-most}
-use Rattle.totals.specs.Totals.{Small, Given, HasLength}
+use Rattle.totals.specs.Totals.{Small, Given}
 use Rattle.checks.specs.declared.Lent.{Lent}
 use Rattle.checks.specs.declared.Lent.the-variants.{Exact}
 use Rattle.checks.specs.declared.Admission.{Admission}
@@ -24,9 +21,10 @@ use Rattle.checks.specs.Calls.{Outside, lentSlices, characterChecks, cellChecks
 use Rattle.checks.proofs.Lending.{exact-clear}
 use Rattle.checks.proofs.Orders.{admissible, rest-passes, character-passes, matrix-passes, character-inside, matrix-inside, sized}
 use Rattle.choices.specs.declared.Resolve.{Resolve}
-use Rattle.characters.specs.declared.Scores.{Scores}
-use Rattle.characters.specs.Afresh.{Results, AllLong, resultSlices, CharacterMeans, TreeScores, OneScored, AllScored}
-use Rattle.characters.specs.Steps.{HasScores, GivenOne}
+use Rattle.scores.specs.declared.Scores.{Scores}
+use Rattle.scores.specs.Scores.{TreeScores, Results, AllLong, CharacterMeans}
+use Rattle.scores.specs.Steps.{GivenOne}
+use Rattle.characters.specs.Afresh.{resultSlices, OneScored, AllScored}
 
 -- slices that are not refused are exact
 results-long : (n : ℕ) (r : Results) → Passes (slices 3 (resultSlices n r)) → AllLong n r
@@ -107,30 +105,3 @@ module _ (n c : ℕ) (tree matrix : List ℕ) (L : InLimits n c) (told : Lent) (
           accepted = A .1;
           means = M;
         }
-
--- the scores of the tree, from the three sums
-pub tree-scores : (n c ρ : ℕ) (tree matrix : List ℕ) (l a b : ℕ) → HasLength n c tree matrix l
-    → a ≡ sum (λ j. index.m n (stateOf matrix c j)) (from 1 c) → b ≡ sum (λ j. index.g n (stateOf matrix c j) ρ) (from 1 c)
-    → (s : Scores) → HasScores l a b s → TreeScores n c matrix tree ρ s
-tree-scores n c ρ tree matrix l a b H ea eb s S =
-    record {
-      lengths = H .lengths;
-      least = H .least;
-      total = S .length ∙ H .total;
-      m = S .m ∙ ea;
-      g = S .g ∙ eb;
-      indices = S .indices;
-    }
-
--- no sum of m's is above that of the g's
-pub sums-ordered : (n c ρ : ℕ) (matrix : List ℕ)
-    → sum (λ j. index.m n (stateOf matrix c j)) (from 1 c) ≤ sum (λ j. index.g n (stateOf matrix c j) ρ) (from 1 c)
-sums-ordered n c ρ matrix = go (from 1 c)
-  where
-    go : (js : List ℕ) → sum (λ j. index.m n (stateOf matrix c j)) js ≤ sum (λ j. index.g n (stateOf matrix c j) ρ) js
-    go [] = omega arith
-    go (j ∷ js) = omega (arith, m-most n (stateOf matrix c j) ρ, go js)
-
--- the same root and descendant, under other names
-pub wider : (n c ρ δ ρ′ δ′ : ℕ) (tree matrix : List ℕ) → ρ′ ≡ ρ → δ′ ≡ δ → Given n c ρ δ tree matrix → Given n c ρ′ δ′ tree matrix
-wider n c ρ δ ρ′ δ′ tree matrix e d G = rw e (rw d G)

@@ -1,4 +1,3 @@
--- What the calls answer (Afresh.antt), and the steps on the way (Steps.antt).
+-- What the calls answer.
 -- Assumes nothing.
 pub mod Afresh
-pub mod Steps

@@ -14,9 +14,10 @@ use Rattle.choices.specs.declared.Resolve.{Resolve}
 use Rattle.checks.specs.declared.Lent.{Lent}
 use Rattle.checks.specs.declared.Lent.the-variants.{Exact, Wrong}
 use Rattle.checks.specs.Calls.{Told, cellChecks, allChecks, lentSlices, characterChecks, matrixChecks}
+use Rattle.scores.specs.Scores.{Results}
 use Rattle.characters.specs.declared.Answer.{Answer}
 use Rattle.characters.specs.declared.Answer.the-variants as answer
-use Rattle.characters.specs.Afresh.{Results, resultSlices, OneAnswers, AllAnswers}
+use Rattle.characters.specs.Afresh.{resultSlices, OneAnswers, AllAnswers}
 use Rattle.answers.specs.Coded.{limit, code, Gives, resolveOf}
 use Rattle.editions.specs.Outcomes.{sevenSlice, lastWrong, sizeChecks, lent, TreeAnswers, TreeOutcome, CharacterAnswers, CharacterOutcome}
 

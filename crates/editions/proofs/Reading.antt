@@ -11,10 +11,11 @@ use Rattle.refusals.specs.declared.Refusal.{Refusal}
 use Rattle.refusals.specs.Checks.{Check, Refuses, Slice, slices}
 use Rattle.trees.specs.Answers.{treeFaults}
 use Rattle.checks.specs.Calls.{cellChecks, allChecks, lentSlices, characterChecks, matrixChecks}
-use Rattle.characters.specs.declared.Scores.{Scores}
+use Rattle.scores.specs.declared.Scores.{Scores}
+use Rattle.scores.specs.Scores.{Results}
 use Rattle.characters.specs.declared.Answer.{Answer}
 use Rattle.characters.specs.declared.Answer.the-variants as answer
-use Rattle.characters.specs.Afresh.{Results, resultSlices, OneScored, AllScored}
+use Rattle.characters.specs.Afresh.{resultSlices, OneScored, AllScored}
 use Rattle.answers.specs.Coded.{limit, seven, Gives, resolveOf}
 use Rattle.answers.proofs.Reading.{said, below, above}
 use Rattle.editions.specs.Outcomes.{sevenSlice, TreeAnswers, TreeOutcome, CharacterAnswers, CharacterOutcome}

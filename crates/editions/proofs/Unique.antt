@@ -8,9 +8,10 @@ use Rattle.refusals.proofs.Order.{one-refusal, not-refused}
 use Rattle.choices.specs.declared.Resolve.{Resolve}
 use Rattle.checks.specs.Calls.{characterChecks, matrixChecks}
 use Rattle.checks.proofs.Orders.{sure-character, sure-matrix}
+use Rattle.scores.specs.Scores.{Results}
 use Rattle.characters.specs.declared.Answer.{Answer}
 use Rattle.characters.specs.declared.Answer.the-variants as answer
-use Rattle.characters.specs.Afresh.{Results, resultSlices}
+use Rattle.characters.specs.Afresh.{resultSlices}
 use Rattle.characters.proofs.Unique.{one-character-outcome, all-characters-answer}
 use Rattle.answers.specs.Coded.{value, results, Gives, resolveOf}
 use Rattle.editions.specs.Outcomes.{sevenSlice, TreeAnswers, TreeOutcome, CharacterAnswers, CharacterOutcome}

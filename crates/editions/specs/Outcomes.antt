@@ -11,9 +11,10 @@ use Rattle.choices.specs.declared.Resolve.{Resolve}
 use Rattle.checks.specs.declared.Lent.{Lent}
 use Rattle.checks.specs.declared.Lent.the-variants.{Exact, Wrong}
 use Rattle.checks.specs.Calls.{Outside, characterChecks, matrixChecks}
+use Rattle.scores.specs.Scores.{Results}
 use Rattle.characters.specs.declared.Answer.{Answer}
 use Rattle.characters.specs.declared.Answer.the-variants as answer
-use Rattle.characters.specs.Afresh.{Results, six, resultSlices, OneAnswers, AllAnswers}
+use Rattle.characters.specs.Afresh.{six, resultSlices, OneAnswers, AllAnswers}
 use Rattle.answers.specs.Coded.{Gives, resolveOf}
 
 -- ---- the result slice

@@ -6,8 +6,8 @@ use Prim.Native.Nat.{ℕ}
 use Rattle.numbers.specs.Printed.{decimal, commas}
 use Rattle.choices.specs.declared.Resolve.{Resolve}
 use Rattle.forms.specs.Sheets.{taxaKey, charactersKey, resolveLine}
-use Rattle.characters.specs.declared.Scores.{Scores}
-use Rattle.characters.specs.Afresh.{Results}
+use Rattle.scores.specs.declared.Scores.{Scores}
+use Rattle.scores.specs.Scores.{Results}
 use Rattle.fields.specs.Fields.{byte, field, index}
 use Rattle.listings.specs.Ranges.{ranges}
 

@@ -4,7 +4,7 @@ use mathlib.Core.Path.{_≡_}
 use mathlib.Core.List.{List}
 use Prim.Native.Nat.{ℕ, _+_, _*_, _<_}
 use lib.ListN.{length}
-use Rattle.characters.specs.declared.Scores.{Scores}
+use Rattle.scores.specs.declared.Scores.{Scores}
 use Rattle.fields.specs.Proper.{Proper}
 
 -- both indices are at most 1

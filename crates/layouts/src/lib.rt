@@ -1,11 +1,11 @@
 // The parts of a report, written into a lent slice: the lines for the tree, the lines for a character, and the line of a refusal.
-use characters::Scores;
 use choices::Resolve;
 use fields::put_byte;
 use fields::put_count;
 use fields::put_index;
 use printing::put_bytes;
 use printing::put_number;
+use scores::Scores;
 ghost use Prim.Native.Nat.{_+_, _≤_};
 ghost use lib.ListN.{length};
 ghost use Rattle.forms.specs.Sheets.{resolveLine};

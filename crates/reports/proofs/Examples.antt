@@ -7,7 +7,7 @@ use Prim.Native.Nat.{ℕ, suc, zero}
 use Rattle.numbers.specs.Printed.{decimalOf, continued, commas}
 use Rattle.indices.specs.declared.Index.the-variants.{Fraction, None}
 use Rattle.choices.specs.declared.Resolve.the-variants.{Acctran}
-use Rattle.characters.specs.declared.Scores.{Scores}
+use Rattle.scores.specs.declared.Scores.{Scores}
 use Rattle.fields.specs.Fields.{index}
 use Rattle.listings.specs.Ranges.{moreRanges, ranges}
 use Rattle.layouts.specs.Report.{refusedLine}

@@ -16,7 +16,7 @@ use Rattle.forms.proofs.Unique.{sheet-room}
 use Rattle.sheets.specs.Answers.{sheetChecks, Reads}
 use Rattle.sheets.proofs.Copying.{cells-count}
 use Rattle.checks.specs.Calls.{matrixChecks}
-use Rattle.characters.specs.declared.Scores.{Scores}
+use Rattle.scores.specs.declared.Scores.{Scores}
 use Rattle.characters.specs.Afresh.{AllScored}
 use Rattle.fields.specs.Fitting.{Fitting}
 use Rattle.fields.proofs.Room.{looser, fitting-both}

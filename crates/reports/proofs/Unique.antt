@@ -13,9 +13,9 @@ use Rattle.checks.proofs.Orders.{sure-matrix}
 use Rattle.forms.specs.Sheets.{Sheet, choice, IsSheet}
 use Rattle.forms.specs.Faults.{TooLong, NotInForm, Outside, textChecks}
 use Rattle.forms.proofs.Unique.{one-sheet, sheet-passes}
-use Rattle.characters.specs.declared.Scores.{Scores}
+use Rattle.scores.specs.declared.Scores.{Scores}
+use Rattle.scores.specs.Scores.{Results}
 use Rattle.characters.specs.declared.Answer.the-variants as answer
-use Rattle.characters.specs.Afresh.{Results}
 use Rattle.characters.proofs.Unique.{one-character-outcome, all-characters-answer}
 use Rattle.layouts.specs.Report.{treeLines, refusedLine}
 use Rattle.reports.specs.declared.ReportAnswer.{ReportAnswer}

@@ -12,8 +12,9 @@ use Rattle.choices.specs.declared.Resolve.{Resolve}
 use Rattle.checks.specs.Calls.{matrixChecks}
 use Rattle.forms.specs.Sheets.{Sheet, choice, IsSheet}
 use Rattle.forms.specs.Faults.{textChecks}
-use Rattle.characters.specs.declared.Scores.{Scores}
-use Rattle.characters.specs.Afresh.{CharacterMeans, AllScored}
+use Rattle.scores.specs.declared.Scores.{Scores}
+use Rattle.scores.specs.Scores.{CharacterMeans}
+use Rattle.characters.specs.Afresh.{AllScored}
 use Rattle.layouts.specs.Report.{treeLines, refusedLine}
 use Rattle.turns.specs.Lines.{Found, linesTo}
 use Rattle.reports.specs.declared.ReportAnswer.{ReportAnswer}

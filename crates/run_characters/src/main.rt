@@ -6,13 +6,13 @@ ghost use mathlib.Core.Path.{_≡_};
 ghost use Prim.Native.Nat.{_≤_, min};
 ghost use lib.ListN.{length};
 use characters::Answer;
-use characters::Scores;
 use choices::Resolve;
 use indices::Index;
 use libc::STDIN_FILENO;
 use libc::STDOUT_FILENO;
 use numbers::Parsed;
 use refusals::wide;
+use scores::Scores;
 
 // ---- reading
 

@@ -13,8 +13,8 @@ use Rattle.parsimony.proofs.Extent.{m-shortest, sum-below}
 use Rattle.indices.specs.declared.Index.{Index}
 use Rattle.indices.specs.declared.Index.the-variants.{Fraction, None}
 use Rattle.indices.specs.Indices.{indexOf}
-use Rattle.characters.specs.declared.Scores.{Scores}
-use Rattle.characters.specs.Afresh.{HasIndices, CharacterScores, TreeScores}
+use Rattle.scores.specs.declared.Scores.{Scores}
+use Rattle.scores.specs.Scores.{HasIndices, CharacterScores, TreeScores}
 use Rattle.fields.specs.Proper.{AtMost, Proper}
 use Rattle.layouts.specs.Rooms.{Indexed}
 

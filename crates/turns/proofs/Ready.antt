@@ -20,9 +20,10 @@ use Rattle.checks.specs.declared.Lent.the-variants.{Exact}
 use Rattle.checks.specs.Calls.{characterChecks}
 use Rattle.checks.proofs.Lending.{in-limits, exact-clear}
 use Rattle.checks.proofs.Orders.{character-passes}
-use Rattle.characters.specs.declared.Scores.{Scores}
+use Rattle.scores.specs.declared.Scores.{Scores}
+use Rattle.scores.specs.Scores.{Results, AllLong, CharacterMeans}
 use Rattle.characters.specs.declared.Answer.the-variants as answer
-use Rattle.characters.specs.Afresh.{Results, resultSlices, AllLong, CharacterMeans, OneScored, OneAnswers, AllScored}
+use Rattle.characters.specs.Afresh.{resultSlices, OneScored, OneAnswers, AllScored}
 use Rattle.turns.specs.Lines.{Ready}
 
 -- where no lowest place is, none is

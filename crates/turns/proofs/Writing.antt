@@ -17,8 +17,9 @@ use Rattle.parsimony.proofs.Sums.{choose-yes, choose-no}
 use Rattle.indices.specs.declared.Index.the-variants.{None}
 use Rattle.choices.specs.declared.Resolve.{Resolve}
 use Rattle.trees.proofs.Unique.{one-shape}
-use Rattle.characters.specs.declared.Scores.{Scores}
-use Rattle.characters.specs.Afresh.{Results, AllLong, CharacterMeans, OneScored}
+use Rattle.scores.specs.declared.Scores.{Scores}
+use Rattle.scores.specs.Scores.{Results, AllLong, CharacterMeans}
+use Rattle.characters.specs.Afresh.{OneScored}
 use Rattle.fields.specs.Fitting.{Fitting}
 use Rattle.fields.proofs.Pieces.{written-none}
 use Rattle.fields.proofs.Room.{looser, fitting-both}

@@ -10,8 +10,8 @@ use Rattle.refusals.specs.Search.{Never}
 use Rattle.cells.specs.Above.{AboveAt}
 use Rattle.choices.specs.declared.Resolve.{Resolve}
 use Rattle.checks.specs.Calls.{InLimits}
-use Rattle.characters.specs.declared.Scores.{Scores}
-use Rattle.characters.specs.Afresh.{Results, CharacterMeans}
+use Rattle.scores.specs.declared.Scores.{Scores}
+use Rattle.scores.specs.Scores.{Results, CharacterMeans}
 use Rattle.fields.specs.Fitting.{Fitting}
 use Rattle.layouts.specs.Report.{characterLines}
 use Rattle.layouts.specs.Rooms.{characterRoom}

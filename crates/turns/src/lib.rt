@@ -3,7 +3,7 @@ use characters::Answer;
 use choices::Resolve;
 ghost use Prim.Native.Nat.{_+_, _-_, _*_, _≤_};
 ghost use lib.ListN.{length};
-ghost use Rattle.characters.specs.Afresh.{AllLong};
+ghost use Rattle.scores.specs.Scores.{AllLong};
 ghost use Rattle.layouts.specs.Rooms.{characterRoom};
 ghost use Rattle.turns.specs.Lines.{Ready, One, Some};
 

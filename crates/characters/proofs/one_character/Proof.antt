@@ -11,7 +11,8 @@ use Rattle.checks.specs.Calls.{Outside, lentSlices, Told, InLimits, AdmitsChara
 use Rattle.checks.proofs.Lending.{in-limits}
 use Rattle.checks.proofs.Admitting.{all-small}
 use Rattle.checks.proofs.Orders.{admissible, character-outside}
-use Rattle.characters.specs.Afresh.{Results, resultSlices}
+use Rattle.scores.specs.Scores.{Results}
+use Rattle.characters.specs.Afresh.{resultSlices}
 use Rattle.characters.proofs.Calling.{one-refused, given-one, one-scored}
 use Rattle.characters.proofs.one_character.Statement.{statement}
 use Rattle.characters.proofs.one_character.Tie as tie

@@ -3,7 +3,7 @@
 use borrow.Author.Needs.{needs}
 use mathlib.Core.Path.{_≡_}
 use lib.ListN.{length}
-use Rattle.characters.specs.Afresh.{Results}
+use Rattle.scores.specs.Scores.{Results}
 use Rattle.editions.proofs.Lasts.{character-refusal, character-given}
 use Rattle.editions.proofs.badrumello_character.Statement.{statement}
 use Rattle.editions.proofs.badrumello_character.Tie as tie

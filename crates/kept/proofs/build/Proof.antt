@@ -14,7 +14,8 @@ use Rattle.checks.proofs.Admitting.{all-small}
 use Rattle.checks.proofs.Orders.{admissible, matrix-outside}
 use Rattle.kept.specs.Kept.{Table, tableSlices}
 use Rattle.checks.specs.declared.Admission.the-variants.{Admitted, Refused}
-use Rattle.characters.proofs.Calling.{given-all, wider}
+use Rattle.scores.proofs.Summing.{wider}
+use Rattle.characters.proofs.Calling.{given-all}
 use Rattle.kept.proofs.Calling.{matrix-refused, long-all, passes-all}
 use Rattle.kept.proofs.build.Statement.{statement}
 use Rattle.kept.proofs.build.Tie as tie

@@ -8,7 +8,7 @@ use lib.ListN.{length}
 use Rattle.fields.specs.Fields as fields
 use Rattle.fields.proofs.Room.{looser, fitting-both, fitting-rest}
 use Rattle.numbers.specs.Printed.{decimal}
-use Rattle.characters.specs.Afresh.{Results}
+use Rattle.scores.specs.Scores.{Results}
 use Rattle.layouts.specs.Report as text
 use Rattle.layouts.specs.Rooms.{indexRoom, nodeRoom, characterRoom}
 use Rattle.layouts.proofs.put_character.Statement.{statement}

@@ -4,7 +4,7 @@
 use mathlib.Core.Path.{sym, _∙_}
 use Prim.Native.Nat.{_-_}
 use native.Mathlib.Omega.{arith}
-use Rattle.characters.specs.Afresh.{Results}
+use Rattle.scores.specs.Scores.{Results}
 use Rattle.turns.proofs.Writing.{Turned, turned-none, turn-fits, turned-more, turned-all}
 use Rattle.turns.proofs.put_each.Statement.{statement}
 use Rattle.turns.proofs.put_each.Tie as tie

@@ -4,9 +4,10 @@ use borrow.Author.Needs.{needs}
 use mathlib.Core.Path.{subst}
 use native.Mathlib.Omega.{arith}
 use Rattle.parsimony.specs.Matrix.{stateOf}
+use Rattle.scores.specs.Scores.{Results}
 use Rattle.characters.specs.declared.Answer.{Answer}
 use Rattle.characters.specs.declared.Answer.the-variants.{Scores}
-use Rattle.characters.specs.Afresh.{Results, OneAnswers}
+use Rattle.characters.specs.Afresh.{OneAnswers}
 use Rattle.turns.proofs.Proper.{indexed-character}
 use Rattle.turns.proofs.Ready.{never-refused}
 use Rattle.turns.proofs.Writing.{lists-of, one-put}

@@ -1,4 +1,4 @@
--- What the steps of the two calls ask and leave.
+-- What the steps ask and leave.
 -- Assumes nothing.
 use mathlib.Core.Path.{_≡_}
 use mathlib.Core.List.{List}
@@ -14,8 +14,8 @@ use Rattle.trees.specs.Answers.{Sized}
 use Rattle.shapes.specs.Filling.{Orders}
 use Rattle.choices.specs.declared.Resolve.{Resolve}
 use Rattle.choices.specs.declared.Resolve.the-variants.{Acctran, Deltran}
-use Rattle.characters.specs.declared.Scores.{Scores}
-use Rattle.characters.specs.Afresh.{HasIndices, Results, AllLong}
+use Rattle.scores.specs.declared.Scores.{Scores}
+use Rattle.scores.specs.Scores.{HasIndices, Results, AllLong}
 
 -- the scores from three numbers: a length, m and g
 pub record HasScores (l a b : ℕ) (s : Scores) : Type 0 where

@@ -6,10 +6,10 @@ use mathlib.Core.Path.{_≡_, refl, sym, _∙_, ap, subst}
 use Prim.Native.Nat.{ℕ, _+_, _-_, _*_, _≤_, _<_}
 use lib.ListN.{length}
 use Rattle.totals.specs.Totals as totals
-use Rattle.characters.specs.Afresh.{TreeScores}
-use Rattle.characters.proofs.Calling.{wider, tree-scores, sums-ordered}
-use Rattle.characters.proofs.score_all.Statement.{statement}
-use Rattle.characters.proofs.score_all.Tie as tie
+use Rattle.scores.specs.Scores.{TreeScores}
+use Rattle.scores.proofs.Summing.{wider, tree-scores, sums-ordered}
+use Rattle.scores.proofs.score_all.Statement.{statement}
+use Rattle.scores.proofs.score_all.Tie as tie
 
 -- where the proof stands, and what came before
 abbrev total-length-of-score : tie.After-score → tie.After-total-length

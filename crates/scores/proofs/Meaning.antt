@@ -32,9 +32,9 @@ use Rattle.indices.specs.Indices.{Readable}
 use Rattle.descents.specs.Descents.{Descends, Finals, Chooses}
 use Rattle.choices.specs.declared.Resolve.{Resolve}
 use Rattle.choices.specs.declared.Resolve.the-variants.{Acctran, Deltran}
-use Rattle.characters.specs.declared.Scores.{Scores}
-use Rattle.characters.specs.Afresh.{HasIndices, Results, AllLong, rangesOf, CharacterMeans}
-use Rattle.characters.specs.Steps.{HasScores, Given, BegunIn, listOf, GivenOne}
+use Rattle.scores.specs.declared.Scores.{Scores}
+use Rattle.scores.specs.Scores.{HasIndices, Results, AllLong, rangesOf, CharacterMeans}
+use Rattle.scores.specs.Steps.{HasScores, Given, BegunIn, listOf, GivenOne}
 
 -- the states are chosen from the ranges that the choice names
 module _ (n c j ρ : ℕ) (tree matrix first-lows first-highs final-lows final-highs states : List ℕ) (resolve : Resolve) where
