@@ -20,7 +20,8 @@ use Rattle.ranges.specs.declared.Range.{Range}
 use Rattle.ranges.specs.Ranges.{rangeOf, IsRange}
 use Rattle.shapes.specs.Shape.{Filled, IsOrder}
 use Rattle.shapes.proofs.Subtrees as subtrees
-use Rattle.descents.specs.Descents.{Readable, Descends, aboveOf, Seeing, Seen, Finishing, Finished, Finals}
+use Rattle.nodes.specs.Nodes.{Readable, aboveOf, Seeing, Seen, Finishing, Finished}
+use Rattle.descents.specs.Descents.{Descends, Finals}
 
 -- ---- the second pass, after i turns
 

@@ -1,3 +1,3 @@
--- One character's ranges at the interior nodes, and what is made of them from the root down.
+-- One character's ranges at the interior nodes, and its final ranges.
 -- Assumes nothing.
 pub mod Descents

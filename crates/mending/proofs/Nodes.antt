@@ -13,7 +13,7 @@ use Rattle.parsimony.specs.Character.{atNode, ranges, sizes}
 use Rattle.parsimony.proofs.Sums.{choose-yes, choose-no}
 use Rattle.ranges.specs.declared.Range.{Range}
 use Rattle.ranges.specs.Ranges.{rangeOf, Joined}
-use Rattle.descents.specs.Descents.{Readable, IsAt}
+use Rattle.nodes.specs.Nodes.{Readable, IsAt}
 use Rattle.mending.specs.Mending.{MendsNode, MendedNode}
 
 -- ---- the length below a node

@@ -24,7 +24,7 @@ use Rattle.parsimony.proofs.Ranges.Joins.{join-high, cost-high}
 use Rattle.shapes.specs.Shape.{Filled, pathOf}
 use Rattle.shapes.proofs.Paths.{path-short, path-at}
 use Rattle.shapes.proofs.Subtrees as subtrees
-use Rattle.descents.specs.Descents.{Readable}
+use Rattle.nodes.specs.Nodes.{Readable}
 use Rattle.mending.proofs.Climbs as climbs
 use Rattle.mending.proofs.Turns.{MendedTo}
 use Rattle.mending.specs.Mending.{Sound, SameAt, MendsNode, MendedNode, MendsPath}

@@ -15,7 +15,7 @@ use Rattle.ranges.specs.declared.Range.{Range}
 use Rattle.ranges.specs.Ranges.{Joined}
 use Rattle.trees.specs.Answers.{Sized}
 use Rattle.shapes.specs.Shape.{Filled, pathOf}
-use Rattle.descents.specs.Descents.{Readable}
+use Rattle.nodes.specs.Nodes.{Readable}
 
 -- an entry that a pass can leave: a range, no higher than 9999, and a length of at most 5,089,491
 pub record Sound (low high l : ℕ) : Type 0 where

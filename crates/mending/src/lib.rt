@@ -36,8 +36,8 @@ fn mend_node(
     let at = node - n - 1;
     let a = wide(left[at]);
     let b = wide(right[at]);
-    let x = descents::range_at(n, c, character, a, matrix, lows, highs);
-    let y = descents::range_at(n, c, character, b, matrix, lows, highs);
+    let x = nodes::range_at(n, c, character, a, matrix, lows, highs);
+    let y = nodes::range_at(n, c, character, b, matrix, lows, highs);
     let joined = ranges::join(x, y);
     let cost = ranges::cost(x, y);
     let below = length_at(n, a, lengths) + length_at(n, b, lengths);

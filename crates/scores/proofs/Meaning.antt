@@ -29,7 +29,8 @@ use Rattle.parsimony.proofs.Tables.Trees.{Tree}
 use Rattle.shapes.specs.Shape.{Filled, IsOrder}
 use Rattle.shapes.specs.Filling.{Orders}
 use Rattle.indices.specs.Indices.{Readable}
-use Rattle.descents.specs.Descents.{Descends, Finals, Chooses}
+use Rattle.descents.specs.Descents.{Descends, Finals}
+use Rattle.reconstructions.specs.Reconstructions.{Chooses}
 use Rattle.choices.specs.declared.Resolve.{Resolve}
 use Rattle.choices.specs.declared.Resolve.the-variants.{Acctran, Deltran}
 use Rattle.scores.specs.declared.Scores.{Scores}

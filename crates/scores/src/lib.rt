@@ -10,7 +10,8 @@ ghost use Rattle.parsimony.specs.Matrix.{stateOf};
 ghost use Rattle.scores.specs.Scores.{CharacterMeans, TreeScores};
 ghost use Rattle.scores.specs.Steps.{HasScores, Given, Begun, listOf, GivenOne};
 ghost use Rattle.totals.specs.Totals as totals;
-ghost use Rattle.descents.specs.Descents.{Descends, Chooses};
+ghost use Rattle.descents.specs.Descents.{Descends};
+ghost use Rattle.reconstructions.specs.Reconstructions.{Chooses};
 
 // What a character or a tree scores: its length, m, g, and its indices.
 pub struct Scores {
@@ -102,7 +103,7 @@ fn reconstruct(
         (listOf resolve (now («first_highs» .entry)) (now («final_highs» .entry))) (now (states .exit)) ⌝ }
 {
     match resolve {
-        Resolve::Acctran => descents::choose_states(
+        Resolve::Acctran => reconstructions::choose_states(
             n,
             c,
             character,
@@ -115,7 +116,7 @@ fn reconstruct(
             first_highs,
             states,
         ),
-        Resolve::Deltran => descents::choose_states(
+        Resolve::Deltran => reconstructions::choose_states(
             n,
             c,
             character,

@@ -18,7 +18,7 @@ use Rattle.refusals.specs.Checks.{Clear}
 use Rattle.refusals.proofs.Laws.{lowest-never}
 use Rattle.ranges.specs.declared.Range.{Range}
 use Rattle.ranges.specs.Ranges.{rangeOf}
-use Rattle.descents.specs.Descents.{Readable, IsAt}
+use Rattle.nodes.specs.Nodes.{Readable, IsAt}
 use Rattle.tables.specs.Tables.{stretch}
 use Rattle.entries.specs.Entries.{BadAt, BadIn, allEntries}
 use Rattle.entries.proofs.Searching.{clean, part-is, one-character}

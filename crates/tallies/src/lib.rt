@@ -25,8 +25,8 @@ pub fn length_here(
     requires { ⌜ HasTop n c character root top (now matrix) (now lows) (now highs) (now lengths) ⌝ }
     ensures { λ r. ⌜ IsLength n c character root top (now (matrix .entry)) (now (lows .entry)) (now (highs .entry)) (now (lengths .entry)) r ⌝ }
 {
-    let here = descents::range_at(n, c, character, root, matrix, lows, highs);
-    let below = descents::range_at(n, c, character, top, matrix, lows, highs);
+    let here = nodes::range_at(n, c, character, root, matrix, lows, highs);
+    let below = nodes::range_at(n, c, character, top, matrix, lows, highs);
     lengths[top - n - 1] + long(ranges::cost(here, below))
 }
 

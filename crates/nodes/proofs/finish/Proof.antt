@@ -7,10 +7,10 @@ use mathlib.Core.Path.{_≡_, refl, sym, _∙_, ap, ap₂, subst}
 use Prim.Native.Nat.{ℕ, suc, _+_, _-_, _*_, _≤_, _<_}
 use lib.ListN.{length, getD}
 use lib.ListN.{length-set}
-use Rattle.descents.specs.Descents.{Readable}
-use Rattle.descents.proofs.Reading.{slot-readable, finished}
-use Rattle.descents.proofs.finish.Statement.{statement}
-use Rattle.descents.proofs.finish.Tie as tie
+use Rattle.nodes.specs.Nodes.{Readable}
+use Rattle.nodes.proofs.Reading.{slot-readable, finished}
+use Rattle.nodes.proofs.finish.Statement.{statement}
+use Rattle.nodes.proofs.finish.Tie as tie
 
 -- where the proof stands, and what came before
 abbrev range-at-of-range-at2 : tie.After-range-at2 → tie.After-range-at

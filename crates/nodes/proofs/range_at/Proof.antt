@@ -7,9 +7,9 @@ use mathlib.Core.Path.{_≡_, refl, sym, _∙_, ap, ap₂, subst}
 use Prim.Native.Nat.{ℕ, suc, _+_, _-_, _*_, _≤_, _<_}
 use lib.ListN.{length, getD}
 use Rattle.cells.proofs.Reading.{in-matrix}
-use Rattle.descents.proofs.Reading.{at-taxon, at-inner}
-use Rattle.descents.proofs.range_at.Statement.{statement}
-use Rattle.descents.proofs.range_at.Tie as tie
+use Rattle.nodes.proofs.Reading.{at-taxon, at-inner}
+use Rattle.nodes.proofs.range_at.Statement.{statement}
+use Rattle.nodes.proofs.range_at.Tie as tie
 
 -- where the proof stands, and what came before
 abbrev start-of-else1 : tie.Else1 → tie.Start

@@ -15,8 +15,9 @@ use Rattle.parsimony.specs.Character.{atNode, ranges, wayOf}
 use Rattle.parsimony.proofs.Characters.{nearest-point, entry-written, entry-other, range-inner, way-taxon, way-inner, way-other}
 use Rattle.parsimony.proofs.Tables.Trees.{Tree}
 use Rattle.shapes.proofs.Subtrees as subtrees
-use Rattle.descents.specs.Descents.{Descends, Choosing, ChosenAt, Chooses}
+use Rattle.descents.specs.Descents.{Descends}
+use Rattle.reconstructions.specs.Reconstructions.{Choosing, ChosenAt, Chooses}
 use Rattle.descents.proofs.Passing as passing
 
 module _ (n c j : ℕ) (tree matrix order lows highs : List ℕ) where
   -- the states after i turns

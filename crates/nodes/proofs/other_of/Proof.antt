@@ -7,8 +7,8 @@ use mathlib.Core.Path.{_≡_, refl, sym, _∙_, ap, ap₂, subst}
 use Prim.Native.Nat.{ℕ, suc, _+_, _-_, _*_, _≤_, _<_}
 use lib.ListN.{length, getD}
 use Rattle.parsimony.proofs.Sums.{choose-yes, choose-no}
-use Rattle.descents.proofs.other_of.Statement.{statement}
-use Rattle.descents.proofs.other_of.Tie as tie
+use Rattle.nodes.proofs.other_of.Statement.{statement}
+use Rattle.nodes.proofs.other_of.Tie as tie
 
 returns : tie.Need-returns
 returns c = sym (choose-yes (ℕ-discrete _ _) _ _ (c .if1 .taken))

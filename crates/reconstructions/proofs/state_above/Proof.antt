@@ -9,9 +9,9 @@ use lib.ListN.{length, getD}
 use Rattle.parsimony.specs.Table.{ancestor}
 use Rattle.parsimony.proofs.Tables.Descendants.{entry-of}
 use Rattle.cells.proofs.Reading.{in-matrix}
-use Rattle.descents.proofs.Choosing.{at-taxon, at-inner}
-use Rattle.descents.proofs.state_above.Statement.{statement}
-use Rattle.descents.proofs.state_above.Tie as tie
+use Rattle.reconstructions.proofs.Choosing.{at-taxon, at-inner}
+use Rattle.reconstructions.proofs.state_above.Statement.{statement}
+use Rattle.reconstructions.proofs.state_above.Tie as tie
 
 -- where the proof stands, and what came before
 abbrev start-of-wide : tie.After-wide → tie.Start

@@ -24,7 +24,7 @@ use Rattle.ranges.specs.Ranges.{rangeOf, Joined}
 use Rattle.trees.specs.Answers.{Sized}
 use Rattle.shapes.specs.Shape.{Filled}
 use Rattle.shapes.proofs.Subtrees as subtrees
-use Rattle.descents.specs.Descents.{Readable, IsAt, otherOf, aboveOf, Seeing, Seen, Finished}
+use Rattle.nodes.specs.Nodes.{Readable, IsAt, otherOf, aboveOf, Seeing, Seen, Finished}
 
 -- ---- the range of a node
 

@@ -8,9 +8,9 @@ use Prim.Native.Nat.{ℕ, suc, _+_, _-_, _*_, _≤_, _<_}
 use lib.ListN.{length, getD}
 use Rattle.parsimony.specs.Table.{ancestor}
 use Rattle.parsimony.proofs.Tables.Descendants.{entry-of}
-use Rattle.descents.proofs.Reading.{root-in, sees-root, up-inner, up-place, sister-readable, above-fits, sees-join}
-use Rattle.descents.proofs.see.Statement.{statement}
-use Rattle.descents.proofs.see.Tie as tie
+use Rattle.nodes.proofs.Reading.{root-in, sees-root, up-inner, up-place, sister-readable, above-fits, sees-join}
+use Rattle.nodes.proofs.see.Statement.{statement}
+use Rattle.nodes.proofs.see.Tie as tie
 
 -- where the proof stands, and what came before
 abbrev range-at-of-join : tie.After-join → tie.After-range-at

@@ -7,10 +7,10 @@ use native.Mathlib.Decide.{ℕ-discrete}
 use mathlib.Core.Path.{_≡_, refl, sym, _∙_, ap, ap₂, subst}
 use Prim.Native.Nat.{ℕ, suc, _+_, _-_, _*_, _≤_, _<_}
 use lib.ListN.{length, getD}
 use Rattle.descents.proofs.Passing.{turn-inner}
-use Rattle.descents.proofs.Choosing.{ChosenTo, chosen-none, chosen-all, choosing-at, range-fits-at, chosen-at}
-use Rattle.descents.proofs.choose_states.Statement.{statement}
-use Rattle.descents.proofs.choose_states.Tie as tie
+use Rattle.reconstructions.proofs.Choosing.{ChosenTo, chosen-none, chosen-all, choosing-at, range-fits-at, chosen-at}
+use Rattle.reconstructions.proofs.choose_states.Statement.{statement}
+use Rattle.reconstructions.proofs.choose_states.Tie as tie
 
 abbrev Inv-loop : tie.InvT-loop
 Inv-loop n c character root top tree matrix order lows highs states₀ i₀ states i = ChosenTo n c character tree matrix order lows highs i states

@@ -1,0 +1,3 @@
+-- What the steps at one node ask and leave.
+-- Assumes nothing.
+pub mod Nodes

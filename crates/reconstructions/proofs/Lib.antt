@@ -1,0 +1,3 @@
+-- The choice of the states, one node after the other.
+-- Assumes nothing.
+pub mod Choosing

@@ -1,0 +1,3 @@
+-- What the states of a reconstruction are.
+-- Assumes nothing.
+pub mod Reconstructions
