@@ -5,8 +5,6 @@ use mathlib.Core.List.{List, []}
 use Prim.Native.Nat.{ℕ, _-_, _*_}
 use lib.ListN.{length}
 use Rattle.parsimony.specs.Matrix.{stateOf}
-use Rattle.parsimony.proofs.Sums.{sum-alike}
-use Rattle.parsimony.proofs.Uniqueness.{one-least}
 use Rattle.refusals.proofs.Order.{one-refusal, not-refused}
 use Rattle.trees.proofs.Unique.{one-shape}
 use Rattle.choices.specs.declared.Resolve.{Resolve}
@@ -15,7 +13,7 @@ use Rattle.checks.proofs.Lending.{exact-clear}
 use Rattle.checks.proofs.Orders.{sure-character, sure-matrix}
 use Rattle.scores.specs.declared.Scores.{Scores}
 use Rattle.scores.specs.Scores.{TreeScores, Results, CharacterMeans}
-use Rattle.scores.proofs.Unique.{scores-same, one-scores, one-results}
+use Rattle.scores.proofs.Unique.{one-scores, one-results, one-tree-scores}
 use Rattle.characters.specs.declared.Answer.{Answer}
 use Rattle.characters.specs.declared.Answer.the-variants as answer
 use Rattle.characters.specs.Afresh.{resultSlices, OneScored, OneAnswers, AllScored, AllAnswers}
@@ -58,11 +56,7 @@ module _ (n c : ℕ) (tree matrix : List ℕ) where
   both-totals : (s s′ : Scores) → AllScored n c tree matrix s → AllScored n c tree matrix s′ → s ≡ s′
   both-totals s s′ O O′ =
       let (p, q) = one-shape n tree (O .ρ) (O .δ) (O .accepted) (O′ .ρ) (O′ .δ) (O′ .accepted) in
-      let M′ : TreeScores n c matrix tree (O .ρ) s′ = subst (λ x. TreeScores n c matrix tree x s′) (sym p) (O′ .means) in
-      let M : TreeScores n c matrix tree (O .ρ) s = O .means in
-      scores-same s s′
-      (M .total ∙ sum-alike (M .lengths) (M′ .lengths) c (λ j a b. one-least (M .least j a b) (M′ .least j a b)) ∙ sym (M′ .total))
-      (M .m ∙ sym (M′ .m)) (M .g ∙ sym (M′ .g)) (M .indices) (M′ .indices)
+      one-tree-scores n c matrix tree (O .ρ) s s′ (O .means) (subst (λ x. TreeScores n c matrix tree x s′) (sym p) (O′ .means))
 
   pub all-characters-answer : (r r′ : Answer) → AllAnswers n c tree matrix r → AllAnswers n c tree matrix r′ → r ≡ r′
   all-characters-answer (answer.Scores s) (answer.Scores s′) h h′ = ap answer.Scores (both-totals s s′ h h′)

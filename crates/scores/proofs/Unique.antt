@@ -1,4 +1,4 @@
--- What is found of a character is one: any two scores, and any two contents of the six slices, that have their meaning are equal.
+-- What is found is one: any two scores of a character or of a tree, and any two contents of the six slices, that have their meaning are equal.
 -- Assumes nothing.
 use mathlib.Core.Path.{_≡_, refl, sym, _∙_, ap, ap₂, subst}
 use mathlib.Core.List.{List}
@@ -10,6 +10,7 @@ use Rattle.parsimony.specs.Ordered.{ordered}
 use Rattle.parsimony.specs.Character.{atNode, cells, ranges, wayOf}
 use Rattle.parsimony.specs.Steps.{Chosen}
 use Rattle.parsimony.specs.Index as index
+use Rattle.parsimony.proofs.Sums.{sum-alike}
 use Rattle.parsimony.proofs.Characters.{same-entries, way-taxon, way-inner}
 use Rattle.parsimony.proofs.Uniqueness.{one-least, one-ordered-entry, one-ordered-final}
 use Rattle.parsimony.proofs.Ranges.Distances.{pos-same}
@@ -22,7 +23,7 @@ use Rattle.indices.specs.Indices.{indexOf}
 use Rattle.choices.specs.declared.Resolve.{Resolve}
 use Rattle.choices.specs.declared.Resolve.the-variants.{Acctran, Deltran}
 use Rattle.scores.specs.declared.Scores.{Scores}
-use Rattle.scores.specs.Scores.{HasIndices, CharacterScores, Results, rangesOf, CharacterMeans}
+use Rattle.scores.specs.Scores.{HasIndices, CharacterScores, TreeScores, Results, rangesOf, CharacterMeans}
 
 -- ---- scores
 
@@ -44,7 +45,7 @@ index-same (Fraction a b) None e = let z : _≡_ {A = ℕ} 0 1 = ap nones e in a
 index-same None (Fraction a b) e = let z : _≡_ {A = ℕ} 1 0 = ap nones e in absurd (omega arith)
 index-same None None e = refl
 
-pub scores-same : (s s′ : Scores) → s .length ≡ s′ .length → s .m ≡ s′ .m → s .g ≡ s′ .g → HasIndices s → HasIndices s′ → s ≡ s′
+scores-same : (s s′ : Scores) → s .length ≡ s′ .length → s .m ≡ s′ .m → s .g ≡ s′ .g → HasIndices s → HasIndices s′ → s ≡ s′
 scores-same s s′ el em eg I I′ = made (s .ci) (s′ .ci) (s .ri) (s′ .ri) el em eg same-ci same-ri
   where
     same-ci : s .ci ≡ s′ .ci
@@ -129,3 +130,12 @@ module _ (n : ℕ) (state : ℕ → ℕ) (tree : List ℕ) (ρ δ : ℕ) (A : Ac
             → _≡_ {A = Results} (record { first-lows = a; first-highs = b; subtree = c; final-lows = d; final-highs = e; states = f })
             (record { first-lows = a′; first-highs = b′; subtree = c′; final-lows = d′; final-highs = e′; states = f′ })
         made p q s t u v = cc
+
+-- ---- all characters
+
+pub one-tree-scores : (n c : ℕ) (matrix tree : List ℕ) (ρ : ℕ) (s s′ : Scores) → TreeScores n c matrix tree ρ s → TreeScores n c matrix tree ρ s′
+    → s ≡ s′
+one-tree-scores n c matrix tree ρ s s′ M M′ =
+    scores-same s s′
+    (M .total ∙ sum-alike (M .lengths) (M′ .lengths) c (λ j a b. one-least (M .least j a b) (M′ .least j a b)) ∙ sym (M′ .total))
+    (M .m ∙ sym (M′ .m)) (M .g ∙ sym (M′ .g)) (M .indices) (M′ .indices)
