@@ -3,7 +3,7 @@
 use mathlib.Core.Path.{_≡_, ap}
 use mathlib.Core.List.{List}
 use Prim.Native.Nat.{ℕ}
-use Rattle.kept.specs.Kept.{Table}
+use Rattle.histories.specs.Kept.{Table}
 use Rattle.histories.proofs.Unique as histories
 use Rattle.answers.proofs.Reading.{same-told}
 use Rattle.kept_answers.specs.Replies.{ofBuilt, ofCount, ofLength}

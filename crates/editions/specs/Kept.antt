@@ -5,8 +5,8 @@ use mathlib.Core.List.{List}
 use Prim.Native.Nat.{ℕ}
 use Rattle.corrections.specs.declared.Count.{Count}
 use Rattle.tallies.specs.declared.Length.{Length}
-use Rattle.kept.specs.declared.Built.{Built}
-use Rattle.kept.specs.Kept.{Table, Builds, Corrects, HasLengths, AnswersKept}
+use Rattle.histories.specs.declared.Built.{Built}
+use Rattle.histories.specs.Kept.{Table, Builds, Corrects, HasLengths, AnswersKept}
 use Rattle.answers.specs.Coded.{Tells}
 use Rattle.kept_answers.specs.Replies.{ofBuilt, ofCount, ofLength}
 

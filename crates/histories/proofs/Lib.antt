@@ -1,4 +1,4 @@
--- What the contracts of the kept table imply: one outcome for each call, and what a list of corrections leaves.
+-- What the promises of the kept table imply: one outcome for each call, and what a list of corrections leaves.
 --     Passed      what is known once no check applies
 --     Unique      each call has one outcome
 --     Sound       entries that have their meaning are never bad: refusal 10 does not apply

@@ -29,7 +29,7 @@ use Rattle.mending.proofs.Means.{mended-means}
 use Rattle.corrections.specs.Corrections.{withCell}
 use Rattle.corrections.specs.declared.Count.{Count}
 use Rattle.corrections.specs.declared.Count.the-variants as count
-use Rattle.kept.specs.Kept.{Table, tableSlices, Means, NoTaxon, correctionChecks, correctChecks, Corrected, Corrects}
+use Rattle.histories.specs.Kept.{Table, tableSlices, Means, NoTaxon, correctionChecks, correctChecks, Corrected, Corrects}
 use Rattle.histories.specs.Histories.{Correction, Kept, After, withOne, withAll}
 use Rattle.histories.proofs.Passed.{passed, in-order}
 use Rattle.histories.proofs.Unique.{correct-outcome}

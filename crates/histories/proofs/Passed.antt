@@ -1,15 +1,16 @@
--- What is known once no check of a call applies: the sizes, and an accepted tree; and which numbers a refusal can have.
+-- What is known once no check of a call applies: the sizes, an accepted tree, and no bad entry; and which numbers a refusal can have.
 -- Assumes nothing.
 use mathlib.Core.Path.{_≡_, refl, sym, subst}
 use mathlib.Core.Logic.{_⊎_, inl, inr}
 use mathlib.Core.List.{List, [], _∷_, _++_}
-use Prim.Native.Nat.{ℕ, suc, _-_, _*_, _≤_, _<_}
+use Prim.Native.Nat.{ℕ, zero, suc, _-_, _*_, _≤_, _<_}
 use native.Mathlib.Decide.{decLe}
 use native.Mathlib.Omega.{arith}
 use lib.ListN.{length}
 use Rattle.parsimony.specs.Table.{Accepted}
 use Rattle.parsimony.specs.Matrix.{cellNumber}
 use Rattle.refusals.specs.declared.Refusal.{Refusal}
+use Rattle.refusals.specs.Search.{Never}
 use Rattle.refusals.specs.Checks.{Check, at, Clear, Refuses, Passes, Slice, slices}
 use Rattle.refusals.proofs.Laws.{never-lowest}
 use Rattle.refusals.proofs.Order.{not-refused}
@@ -17,10 +18,10 @@ use Rattle.cells.specs.Above.{AboveIn}
 use Rattle.trees.specs.Answers.{treeFaults}
 use Rattle.trees.proofs.Faultless.{faultless}
 use Rattle.tables.specs.Tables.{stretch}
-use Rattle.checks.specs.Calls.{Outside, cellChecks, lentSlices, InLimits, CellsPass}
+use Rattle.checks.specs.Calls.{Outside, cellChecks, lentSlices, characterChecks, matrixChecks, InLimits, CellsPass}
 use Rattle.checks.proofs.Lending.{exact-clear, in-limits}
-use Rattle.entries.specs.Entries.{characterEntries}
-use Rattle.kept.specs.Kept.{Table}
+use Rattle.entries.specs.Entries.{BadIn, characterEntries, allEntries}
+use Rattle.histories.specs.Kept.{Table, tableSlices, lengthChecks, keptSlices, keptChecks}
 
 -- ---- lists of checks, in two parts
 
@@ -95,6 +96,30 @@ pub cells-pass : (n c j : ℕ) (matrix : List ℕ) → Passes (cellChecks n c j 
 cells-pass n c j matrix (here, (small, z)) =
     let (p, q) = in-order j c (λ h. here 0 (refl, h)) in
     record { some = p; most = q; small = never-lowest (AboveIn matrix c j) n (λ t L. small (cellNumber c t j) (t, refl, L)) }
+
+-- ---- no bad entry
+
+-- where 10 does not apply to all entries, those of each character are not bad: of the first k, by induction
+module _ (n c : ℕ) (T : Table) (clear : Clear (allEntries n c (T .lows) (T .highs) (T .lengths))) where
+  first-sound : (k : ℕ) → k ≤ c → (i : ℕ) → 1 ≤ i → i ≤ k → Never (BadIn n (T .lows) (T .highs) (T .lengths) i) (2 * n - 2)
+  first-sound zero l i p q = absurd (omega arith)
+  first-sound (suc k) l i p q =
+      never-lowest (BadIn n (T .lows) (T .highs) (T .lengths) i) (2 * n - 2)
+      (λ v L. clear v (i, (p, omega arith), L, λ h a b. first-sound k (omega arith) h a (omega arith)))
+
+-- no check of the tree's length applies: no entry of the table is bad
+pub all-sound : (n c : ℕ) (tree matrix : List ℕ) (T : Table) → Passes (lengthChecks n c tree matrix T) → (j : ℕ) → 1 ≤ j → j ≤ c
+    → Never (BadIn n (T .lows) (T .highs) (T .lengths) j) (2 * n - 2)
+all-sound n c tree matrix T P j p q =
+    let here = passes-split (matrixChecks n c tree matrix (tableSlices n c T)) (allEntries n c (T .lows) (T .highs) (T .lengths) ∷ []) P .1 in
+    first-sound n c T (here .0) j q j p (omega arith)
+
+-- none of one kept character's: no entry of the character is
+pub one-sound : (n c j : ℕ) (tree matrix : List ℕ) (T : Table) (lows highs : List ℕ) → Passes (keptChecks n c j tree matrix T lows highs)
+    → Never (BadIn n (T .lows) (T .highs) (T .lengths) j) (2 * n - 2)
+one-sound n c j tree matrix T lows highs P =
+    let here = passes-split (characterChecks n c j tree matrix (keptSlices n c T lows highs)) (entriesOf n j T ∷ []) P .1 in
+    never-lowest (BadIn n (T .lows) (T .highs) (T .lengths) j) (2 * n - 2) (here .0)
 
 -- ---- numbers
 

@@ -23,7 +23,7 @@ use Rattle.checks.proofs.Orders.{matrix-passes}
 use Rattle.tables.specs.Tables.{stretch, TableLong}
 use Rattle.entries.specs.Entries.{BadAt, BadBeside, allEntries, characterEntries, besideEntries}
 use Rattle.entries.proofs.Searching.{not-bad}
-use Rattle.kept.specs.Kept.{Table, tableSlices, Means, buildChecks}
+use Rattle.histories.specs.Kept.{Table, tableSlices, Means, buildChecks}
 use Rattle.histories.proofs.Passed.{passed}
 
 -- ---- the entries of one character

@@ -5,7 +5,7 @@
 use mathlib.Core.Path.{_≡_, refl, _∙_, ap}
 use mathlib.Core.Logic.{_≢_, _⊎_, ⊎-elim}
 use mathlib.Core.List.{List, [], _∷_, _++_}
-use Prim.Native.Nat.{ℕ, _-_, _≤_, _<_}
+use Prim.Native.Nat.{ℕ, _-_, _*_, _≤_, _<_}
 use native.Mathlib.Decide.{ℕ-discrete}
 use native.Mathlib.Omega.{arith}
 use lib.ListN.{length, length-set}
@@ -27,7 +27,7 @@ use Rattle.checks.specs.Calls.{NoCharacter, lentSlices, characterChecks, matrix
 use Rattle.checks.proofs.Admitting.{refusal}
 use Rattle.checks.proofs.Orders.{character-passes}
 use Rattle.tables.specs.Tables.{stretch, TableLong}
-use Rattle.entries.specs.Entries.{allEntries}
+use Rattle.entries.specs.Entries.{BadIn, allEntries}
 use Rattle.mending.specs.Mending.{SameAt}
 use Rattle.totals.specs.Totals as totals
 use Rattle.corrections.specs.declared.Count.{Count}
@@ -35,9 +35,9 @@ use Rattle.corrections.specs.declared.Count.the-variants as count
 use Rattle.tallies.specs.Tallies.{lengthHere, lengthIn}
 use Rattle.tallies.specs.declared.Length.{Length}
 use Rattle.tallies.specs.declared.Length.the-variants as length′
-use Rattle.kept.specs.declared.Built.{Built}
-use Rattle.kept.specs.declared.Built.the-variants as built
-use Rattle.kept.specs.Kept.{
+use Rattle.histories.specs.declared.Built.{Built}
+use Rattle.histories.specs.declared.Built.the-variants as built
+use Rattle.histories.specs.Kept.{
   Table,
   tableSlices,
   Means,
@@ -53,7 +53,7 @@ use Rattle.kept.specs.Kept.{
   AnswersKept,
 }
 use Rattle.histories.specs.Histories.{Correction, Kept, After, withAll}
-use Rattle.histories.proofs.Passed.{passes-split, entriesOf, passed, cells-pass, not-the-last}
+use Rattle.histories.proofs.Passed.{passes-split, entriesOf, passed, cells-pass, all-sound, one-sound, not-the-last}
 use Rattle.histories.proofs.Unique.{one-meaning, build-outcome}
 use Rattle.histories.proofs.Sound.{clear-character, Stands, passes-stands, exact-slices, build-passes, clear-one, clear-all}
 use Rattle.histories.proofs.Lists.{corrected-cell, means-on, refuses-8, refuses-9, refused-so, accepted-so, steps, after-first}
@@ -212,6 +212,16 @@ character-never-refused-10 n c j tree matrix T lows highs lows′ highs′ r M H
         let J = cells-pass n c j matrix (Q .cleared) in
         clear-character n c j tree matrix (Q .ρ) (Q .δ) (Q .accepted) (record { least = Q .limits .least; most = Q .limits .most; nodes = Q .nodes })
         (J .small) _ _ _ (M .means j (J .some) (J .most))
+
+-- And it is for all of them: where an entry is bad, the tree's length is not answered.
+pub bad-has-no-length : (n c : ℕ) (tree matrix : List ℕ) (T : Table) (j v l : ℕ) → 1 ≤ j → j ≤ c → 1 ≤ v → v ≤ 2 * n - 2
+    → BadIn n (T .lows) (T .highs) (T .lengths) j v → HasLengths n c tree matrix T (length′.Length l) → ⊥
+bad-has-no-length n c tree matrix T j v l a b p q bad H = all-sound n c tree matrix T (H .passes) j a b v p q bad
+
+-- Nor is a character that has a bad entry.
+pub bad-has-no-finals : (n c j : ℕ) (tree matrix : List ℕ) (T : Table) (lows highs lows′ highs′ : List ℕ) (v l : ℕ) → 1 ≤ v → v ≤ 2 * n - 2
+    → BadIn n (T .lows) (T .highs) (T .lengths) j v → AnswersKept n c j tree matrix T lows highs lows′ highs′ (length′.Length l) → ⊥
+bad-has-no-finals n c j tree matrix T lows highs lows′ highs′ v l p q bad H = one-sound n c j tree matrix T lows highs (H .passes) v p q bad
 
 -- ---- a table that was built is answered for
 

@@ -7,7 +7,7 @@ use native.Mathlib.Decide.{decLe}
 use Rattle.parsimony.specs.Lists.{choose}
 use Rattle.corrections.specs.Corrections.{withCell}
 use Rattle.corrections.specs.declared.Count.{Count}
-use Rattle.kept.specs.Kept.{Table, Corrects}
+use Rattle.histories.specs.Kept.{Table, Corrects}
 
 -- a taxon, a character, and the state that its cell is to have
 pub record Correction : Type 0 where

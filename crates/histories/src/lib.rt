@@ -1,1 +1,9 @@
-// No code: what the contracts of the kept table imply for lists of corrections is said in specs/ and proved in proofs/.
+// What the calls of the kept table promise (specs/Kept.antt), what lists of corrections leave (specs/Histories.antt), and that each call has one
+// outcome (proofs/). No code: the calls are in the crate `kept`.
+use refusals::Refusal;
+
+// The table is built, or a refusal.
+pub enum Built {
+    Done,
+    Refused(Refusal),
+}

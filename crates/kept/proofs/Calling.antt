@@ -59,7 +59,7 @@ use Rattle.tallies.specs.declared.Length.{Length}
 use Rattle.tallies.specs.declared.Length.the-variants as length′
 use Rattle.tallies.specs.Tallies.{Totals, SumsOr}
 use Rattle.readings.specs.Readings.{Readable, ReadsOr}
-use Rattle.kept.specs.Kept.{
+use Rattle.histories.specs.Kept.{
   Table,
   three,
   tableSlices,

@@ -1,4 +1,3 @@
--- What the calls of the kept table answer (Kept.antt), and the steps on the way (Steps.antt).
+-- What the steps of the calls leave (Steps.antt). What the calls promise is said in the crate `histories`.
 -- Assumes nothing.
-pub mod Kept
 pub mod Steps

@@ -6,7 +6,7 @@ use Prim.Native.Nat.{ℕ, _≤_}
 use Rattle.refusals.specs.Checks.{Slice}
 use Rattle.checks.specs.declared.Lent.{Lent}
 use Rattle.checks.specs.Calls.{Told}
-use Rattle.kept.specs.Kept.{three, NoTaxon}
+use Rattle.histories.specs.Kept.{three, NoTaxon}
 
 -- what is told of the table's slices and those behind them
 abbrev pub LendsTable : (n c a b d : ℕ) (others told : Lent) → Type 0

@@ -2,18 +2,13 @@
 use checks::Admission;
 use checks::Lent;
 use corrections::Count;
+use histories::Built;
 use refusals::Refusal;
 use refusals::wide;
 use tallies::Length;
 ghost use Prim.Native.Nat.{ℕ, _≤_};
-ghost use Rattle.kept.specs.Kept.{Builds, Corrects, HasLengths, AnswersKept};
+ghost use Rattle.histories.specs.Kept.{Builds, Corrects, HasLengths, AnswersKept};
 ghost use Rattle.kept.specs.Steps.{LendsTable, Wanted};
-
-// The table is built, or a refusal.
-pub enum Built {
-    Done,
-    Refused(Refusal),
-}
 
 // The three slices of the table, before the others: which is the first that has not (n - 2) c entries.
 fn lend_table(n: usize, c: usize, third: usize, fourth: usize, fifth: usize, others: Lent) -> Lent

@@ -2,7 +2,7 @@
 use answers::code;
 use answers::longer;
 use corrections::Count;
-use kept::Built;
+use histories::Built;
 use tallies::Length;
 ghost use Rattle.answers.specs.Coded.{Tells};
 ghost use Rattle.kept_answers.specs.Replies.{ofBuilt, ofCount, ofLength};

@@ -1,7 +1,7 @@
 // Answers, lists and digests of lists, written to standard output.
 ghost use Prim.Native.Nat.{_<_};
 use corrections::Count;
-use kept::Built;
+use histories::Built;
 use libc::STDOUT_FILENO;
 use refusals::Refusal;
 use refusals::wide;

@@ -12,7 +12,7 @@ use Rattle.checks.specs.Calls.{Outside, lentSlices, Told, InLimits, AdmitsMatri
 use Rattle.checks.proofs.Lending.{in-limits}
 use Rattle.checks.proofs.Admitting.{all-small}
 use Rattle.checks.proofs.Orders.{admissible, matrix-outside}
-use Rattle.kept.specs.Kept.{Table, tableSlices}
+use Rattle.histories.specs.Kept.{Table, tableSlices}
 use Rattle.checks.specs.declared.Admission.the-variants.{Admitted, Refused}
 use Rattle.scores.proofs.Summing.{wider}
 use Rattle.characters.proofs.Calling.{given-all}

@@ -12,7 +12,7 @@ use Rattle.checks.specs.Calls.{Outside, lentSlices, Told, InLimits, AdmitsChara
 use Rattle.checks.proofs.Lending.{in-limits}
 use Rattle.checks.proofs.Admitting.{all-small}
 use Rattle.checks.proofs.Orders.{admissible}
-use Rattle.kept.specs.Kept.{Table, keptSlices}
+use Rattle.histories.specs.Kept.{Table, keptSlices}
 use Rattle.checks.specs.declared.Admission.the-variants.{Admitted, Refused}
 use Rattle.kept.proofs.Calling.{kept-refused, kept-ends, kept-small, readable, answers}
 use Rattle.kept.proofs.kept_character.Statement.{statement}

@@ -18,8 +18,8 @@ use Rattle.corrections.specs.Corrections.{withCell, stateChecks, SameStretch}
 use Rattle.corrections.specs.declared.Count.{Count}
 use Rattle.corrections.specs.declared.Count.the-variants as count
 use Rattle.tallies.specs.Tallies.{lengthIn}
-use Rattle.kept.specs.declared.Built.{Built}
-use Rattle.kept.specs.declared.Built.the-variants as built
+use Rattle.histories.specs.declared.Built.{Built}
+use Rattle.histories.specs.declared.Built.the-variants as built
 use Rattle.tallies.specs.declared.Length.{Length}
 use Rattle.tallies.specs.declared.Length.the-variants as length′
 
