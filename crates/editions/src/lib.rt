@@ -241,7 +241,7 @@ pub extern "C" fn badrumello_kept_length(
     give_length(length)
 }
 
-// One character's length and final ranges: `kept::kept_character`.
+// One character's length and final ranges: `kept_characters::kept_character`.
 #[no_mangle]
 pub extern "C" fn badrumello_kept_character(
     n: usize,
@@ -259,7 +259,7 @@ pub extern "C" fn badrumello_kept_character(
         (record { lows = now (low .entry); highs = now (high .entry); lengths = now (lengths .entry) })
         (now («final_low» .entry)) (now («final_high» .entry)) (now («final_low» .exit)) (now («final_high» .exit)) r ⌝ }
 {
-    let length = kept::kept_character(
+    let length = kept_characters::kept_character(
         n,
         c,
         character,

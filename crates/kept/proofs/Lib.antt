@@ -1,3 +1,3 @@
 -- From the checks to the steps (Calling).
 -- Assumes nothing.
-mod Calling
+pub mod Calling

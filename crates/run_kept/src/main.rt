@@ -1,5 +1,5 @@
-// Reads kept tables on standard input, each with a list of corrections, and writes what the calls of the crate `kept` answer and what the buffers
-// hold afterwards. Numbers are decimal, and one byte that is no digit follows each. A table is
+// Reads kept tables on standard input, each with a list of corrections, and writes what the calls of the crates `kept` and `kept_characters` answer and
+// what the buffers hold afterwards. Numbers are decimal, and one byte that is no digit follows each. A table is
 //     n, c, the lengths of the five slices, the tree and the matrix;
 //     0 for a table to be built, or 1 for one that is given: its low ends, its high ends, and its lengths, each as 65536ths and the rest;
 //     the number of corrections, and of each its taxon, character and state, and the lengths of the two slices that receive final ranges.
@@ -105,7 +105,7 @@ fn ask_character(
     final_lows: &mut [u16],
     final_highs: &mut [u16],
 ) {
-    let length = kept::kept_character(
+    let length = kept_characters::kept_character(
         n,
         c,
         character,

@@ -14,9 +14,9 @@ use Rattle.checks.proofs.Admitting.{all-small}
 use Rattle.checks.proofs.Orders.{admissible}
 use Rattle.histories.specs.Kept.{Table, keptSlices}
 use Rattle.checks.specs.declared.Admission.the-variants.{Admitted, Refused}
-use Rattle.kept.proofs.Calling.{kept-refused, kept-ends, kept-small, readable, answers}
-use Rattle.kept.proofs.kept_character.Statement.{statement}
-use Rattle.kept.proofs.kept_character.Tie as tie
+use Rattle.kept_characters.proofs.Calling.{kept-refused, kept-ends, kept-small, readable, answers}
+use Rattle.kept_characters.proofs.kept_character.Statement.{statement}
+use Rattle.kept_characters.proofs.kept_character.Tie as tie
 
 -- where the proof stands, and what came before
 abbrev lend4-of-admission : tie.After-admission → tie.After-lend4

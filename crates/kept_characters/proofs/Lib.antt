@@ -1,0 +1,3 @@
+-- From the checks to the steps (Calling).
+-- Assumes nothing.
+mod Calling
