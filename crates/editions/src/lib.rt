@@ -16,9 +16,9 @@ ghost use mathlib.Core.Logic.{_≢_};
 ghost use mathlib.Core.List.{[], _∷_, _++_};
 ghost use Rattle.refusals.specs.Checks.{Refuses};
 ghost use Rattle.characters.specs.Afresh.{six};
-ghost use Rattle.editions.specs.Outcomes.{sevenSlice, lastWrong, sizeChecks, lent, TreeOutcome, CharacterOutcome};
-ghost use Rattle.editions.specs.Kept.{BuildOutcome, CorrectOutcome, LengthOutcome, KeptOutcome};
-ghost use Rattle.editions.specs.Sheets.{SheetOutcome, ReportOutcome};
+ghost use Rattle.outcomes.specs.Outcomes.{sevenSlice, lastWrong, sizeChecks, lent, TreeOutcome, CharacterOutcome};
+ghost use Rattle.outcomes.specs.Kept.{BuildOutcome, CorrectOutcome, LengthOutcome, KeptOutcome};
+ghost use Rattle.outcomes.specs.Sheets.{SheetOutcome, ReportOutcome};
 
 // ---- a result slice of the wrong length: it is the last of the slices
 

@@ -4,7 +4,7 @@ use borrow.Author.Needs.{needs}
 use mathlib.Core.Path.{_≡_}
 use lib.ListN.{length}
 use Rattle.scores.specs.Scores.{Results}
-use Rattle.editions.proofs.Lasts.{character-refusal, character-given}
+use Rattle.outcomes.proofs.Lasts.{character-refusal, character-given}
 use Rattle.editions.proofs.badrumello_character.Statement.{statement}
 use Rattle.editions.proofs.badrumello_character.Tie as tie
 

@@ -3,7 +3,7 @@
 use borrow.Author.Needs.{needs}
 use mathlib.Core.Path.{_≡_}
 use lib.ListN.{length}
-use Rattle.editions.proofs.Sheeting.{sheet-refusal, sheet-given}
+use Rattle.outcomes.proofs.Sheeting.{sheet-refusal, sheet-given}
 use Rattle.editions.proofs.badrumello_read_sheet.Statement.{statement}
 use Rattle.editions.proofs.badrumello_read_sheet.Tie as tie
 

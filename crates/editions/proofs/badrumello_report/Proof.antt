@@ -1,7 +1,7 @@
 -- `badrumello_report` asks `report`, and codes what it answers.
 -- Assumes nothing.
 use borrow.Author.Needs.{needs}
-use Rattle.editions.proofs.Sheeting.{short}
+use Rattle.outcomes.proofs.Sheeting.{short}
 use Rattle.editions.proofs.badrumello_report.Statement.{statement}
 use Rattle.editions.proofs.badrumello_report.Tie as tie
 

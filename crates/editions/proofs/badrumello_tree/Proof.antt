@@ -3,7 +3,7 @@
 use borrow.Author.Needs.{needs}
 use mathlib.Core.Path.{_≡_}
 use lib.ListN.{length}
-use Rattle.editions.proofs.Lasts.{tree-refusal, tree-given}
+use Rattle.outcomes.proofs.Lasts.{tree-refusal, tree-given}
 use Rattle.editions.proofs.badrumello_tree.Statement.{statement}
 use Rattle.editions.proofs.badrumello_tree.Tie as tie
 

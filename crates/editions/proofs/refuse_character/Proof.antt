@@ -12,8 +12,8 @@ use Rattle.refusals.proofs.Order.{clear-at}
 use Rattle.checks.specs.Calls.{Outside, InLimits}
 use Rattle.checks.proofs.Lending.{in-limits}
 use Rattle.checks.proofs.Admitting.{all-small}
-use Rattle.editions.specs.Outcomes.{sevenSlice, sizeChecks, lent}
-use Rattle.editions.proofs.Lasts.{told-last}
+use Rattle.outcomes.specs.Outcomes.{sevenSlice, sizeChecks, lent}
+use Rattle.outcomes.proofs.Lasts.{told-last}
 use Rattle.editions.proofs.refuse_character.Statement.{statement}
 use Rattle.editions.proofs.refuse_character.Tie as tie
 

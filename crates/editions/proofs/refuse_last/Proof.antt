@@ -2,7 +2,7 @@
 -- Assumes nothing.
 use borrow.Author.Needs.{needs}
 use mathlib.Core.Path.{sym, ap}
-use Rattle.editions.specs.Outcomes.{lastWrong}
+use Rattle.outcomes.specs.Outcomes.{lastWrong}
 use Rattle.editions.proofs.refuse_last.Statement.{statement}
 use Rattle.editions.proofs.refuse_last.Tie as tie
 

@@ -14,8 +14,8 @@ use Rattle.characters.specs.declared.Answer.the-variants as answer
 use Rattle.characters.specs.Afresh.{resultSlices}
 use Rattle.characters.proofs.Unique.{one-character-outcome, all-characters-answer}
 use Rattle.answers.specs.Coded.{value, results, Gives, resolveOf}
-use Rattle.editions.specs.Outcomes.{sevenSlice, TreeAnswers, TreeOutcome, CharacterAnswers, CharacterOutcome}
-use Rattle.editions.proofs.Lasts.{tree-passes, character-passes}
+use Rattle.outcomes.specs.Outcomes.{sevenSlice, TreeAnswers, TreeOutcome, CharacterAnswers, CharacterOutcome}
+use Rattle.outcomes.proofs.Lasts.{tree-passes, character-passes}
 
 -- what a caller is given is known by the answer
 same-given : (a a′ : Answer) (before after after′ : List ℕ) (r r′ : ℕ) → a ≡ a′ → Gives a before after r → Gives a′ before after′ r′

@@ -18,8 +18,8 @@ use Rattle.reports.specs.declared.ReportAnswer.the-variants as report
 use Rattle.reports.specs.Says.{Reports}
 use Rattle.answers.specs.Coded.{limit, code}
 use Rattle.sheet_answers.specs.Replies.{GivesSheet, sheetSlices, Short}
-use Rattle.editions.specs.Sheets.{readChecks, SheetAnswers, SheetOutcome}
-use Rattle.editions.proofs.Lasts.{refuses-still}
+use Rattle.outcomes.specs.Sheets.{readChecks, SheetAnswers, SheetOutcome}
+use Rattle.outcomes.proofs.Lasts.{refuses-still}
 
 module _ (text tree matrix result : List ℕ) where
   -- refused by its sizes, the result slice among them

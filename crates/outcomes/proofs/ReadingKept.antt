@@ -38,8 +38,8 @@ use Rattle.histories.specs.Kept.{
 use Rattle.answers.specs.Coded.{limit, Tells}
 use Rattle.answers.proofs.Reading.{said, not-refused-below, no-number-above, refusal-said}
 use Rattle.kept_answers.specs.Replies.{ofBuilt, ofCount, ofLength}
-use Rattle.editions.specs.Kept.{BuildOutcome, CorrectOutcome, LengthOutcome, KeptOutcome}
-use Rattle.editions.proofs.Reading.{Numbered, numbered, numbered-slices, numbered-append}
+use Rattle.outcomes.specs.Kept.{BuildOutcome, CorrectOutcome, LengthOutcome, KeptOutcome}
+use Rattle.outcomes.proofs.Reading.{Numbered, numbered, numbered-slices, numbered-append}
 
 -- ---- the number of a refusal is 1 or more
 

@@ -19,7 +19,7 @@ use Rattle.characters.specs.declared.Answer.{Answer}
 use Rattle.characters.specs.declared.Answer.the-variants as answer
 use Rattle.characters.specs.Afresh.{resultSlices, OneAnswers, AllAnswers}
 use Rattle.answers.specs.Coded.{limit, code, Gives, resolveOf}
-use Rattle.editions.specs.Outcomes.{sevenSlice, lastWrong, sizeChecks, lent, TreeAnswers, TreeOutcome, CharacterAnswers, CharacterOutcome}
+use Rattle.outcomes.specs.Outcomes.{sevenSlice, lastWrong, sizeChecks, lent, TreeAnswers, TreeOutcome, CharacterAnswers, CharacterOutcome}
 
 -- ---- the last is wrong
 

@@ -19,8 +19,8 @@ use Rattle.reports.specs.Says.{Prints, outSlice, Reports}
 use Rattle.answers.specs.Coded.{limit, Tells}
 use Rattle.answers.proofs.Reading.{said, not-refused-below, no-number-above, refusal-said}
 use Rattle.sheet_answers.specs.Replies.{three, GivesSheet, sheetSlices, ofReport}
-use Rattle.editions.specs.Sheets.{readChecks, SheetAnswers, SheetOutcome, ReportOutcome}
-use Rattle.editions.proofs.Reading.{numbered, numbered-slices}
+use Rattle.outcomes.specs.Sheets.{readChecks, SheetAnswers, SheetOutcome, ReportOutcome}
+use Rattle.outcomes.proofs.Reading.{numbered, numbered-slices}
 
 -- ---- reading a sheet
 

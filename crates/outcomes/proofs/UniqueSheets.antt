@@ -13,8 +13,8 @@ use Rattle.sheets.proofs.Unique as sheets
 use Rattle.reports.proofs.Unique as reports
 use Rattle.answers.proofs.Reading.{same-told}
 use Rattle.sheet_answers.specs.Replies.{ofSheet, threeAfter, sheetSlices, ofReport}
-use Rattle.editions.specs.Sheets.{readChecks, SheetAnswers, SheetOutcome, ReportOutcome}
-use Rattle.editions.proofs.Sheeting.{sheet-passes-call}
+use Rattle.outcomes.specs.Sheets.{readChecks, SheetAnswers, SheetOutcome, ReportOutcome}
+use Rattle.outcomes.proofs.Sheeting.{sheet-passes-call}
 
 -- ---- reading a sheet
 

@@ -7,7 +7,7 @@ use Rattle.histories.specs.Kept.{Table}
 use Rattle.histories.proofs.Unique as histories
 use Rattle.answers.proofs.Reading.{same-told}
 use Rattle.kept_answers.specs.Replies.{ofBuilt, ofCount, ofLength}
-use Rattle.editions.specs.Kept.{BuildOutcome, CorrectOutcome, LengthOutcome, KeptOutcome}
+use Rattle.outcomes.specs.Kept.{BuildOutcome, CorrectOutcome, LengthOutcome, KeptOutcome}
 
 -- `badrumello_build`: the three slices and the number are one.
 pub one-build-outcome : (n c : ℕ) (tree matrix : List ℕ) (before after after′ : Table) (r r′ : ℕ) → BuildOutcome n c tree matrix before after r

@@ -18,7 +18,7 @@ use Rattle.characters.specs.declared.Answer.the-variants as answer
 use Rattle.characters.specs.Afresh.{resultSlices, OneScored, AllScored}
 use Rattle.answers.specs.Coded.{limit, seven, Gives, resolveOf}
 use Rattle.answers.proofs.Reading.{said, below, above}
-use Rattle.editions.specs.Outcomes.{sevenSlice, TreeAnswers, TreeOutcome, CharacterAnswers, CharacterOutcome}
+use Rattle.outcomes.specs.Outcomes.{sevenSlice, TreeAnswers, TreeOutcome, CharacterAnswers, CharacterOutcome}
 
 -- ---- the number of a refusal is 1 or more
 
