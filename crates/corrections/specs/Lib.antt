@@ -1,3 +1,3 @@
--- A corrected cell and the entries of its character.
+-- What a correction does, and when it is refused.
 -- Assumes nothing.
 pub mod Corrections

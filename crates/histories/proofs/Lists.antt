@@ -26,7 +26,7 @@ use Rattle.checks.proofs.Admitting.{refusal, by-cells, clear-cell}
 use Rattle.checks.proofs.Orders.{passes-call}
 use Rattle.tables.specs.Tables.{stretch}
 use Rattle.mending.proofs.Means.{mended-means}
-use Rattle.corrections.specs.Corrections.{withCell}
+use Rattle.repairs.specs.Repairs.{withCell}
 use Rattle.corrections.specs.declared.Count.{Count}
 use Rattle.corrections.specs.declared.Count.the-variants as count
 use Rattle.histories.specs.Kept.{Table, tableSlices, Means, NoTaxon, correctionChecks, correctChecks, Corrected, Corrects}

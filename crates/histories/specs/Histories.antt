@@ -5,7 +5,7 @@ use mathlib.Core.List.{List, [], _∷_}
 use Prim.Native.Nat.{ℕ, _≤_}
 use native.Mathlib.Decide.{decLe}
 use Rattle.parsimony.specs.Lists.{choose}
-use Rattle.corrections.specs.Corrections.{withCell}
+use Rattle.repairs.specs.Repairs.{withCell}
 use Rattle.corrections.specs.declared.Count.{Count}
 use Rattle.histories.specs.Kept.{Table, Corrects}
 

@@ -14,7 +14,9 @@ use Rattle.tables.specs.Tables.{stretch, TableLong, TableMeans}
 use Rattle.entries.specs.Entries.{characterEntries, allEntries}
 use Rattle.descents.specs.Descents.{Finals}
 use Rattle.mending.specs.Mending.{Mended}
-use Rattle.corrections.specs.Corrections.{withCell, stateChecks, SameStretch}
+use Rattle.repairs.specs.Repairs.{withCell}
+use Rattle.corrections.specs.Corrections.{stateChecks}
+use Rattle.table_corrections.specs.TableCorrections.{SameStretch}
 use Rattle.corrections.specs.declared.Count.{Count}
 use Rattle.corrections.specs.declared.Count.the-variants as count
 use Rattle.tallies.specs.Tallies.{lengthIn}

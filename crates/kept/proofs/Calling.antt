@@ -40,7 +40,7 @@ use Rattle.tables.specs.Tables.{TableLong}
 use Rattle.entries.specs.Entries.{allEntries}
 use Rattle.corrections.specs.declared.Count.{Count}
 use Rattle.corrections.specs.declared.Count.the-variants as count
-use Rattle.corrections.specs.Corrections.{CorrectableIn, CorrectsIn}
+use Rattle.table_corrections.specs.TableCorrections.{CorrectableIn, CorrectsIn}
 use Rattle.tallies.specs.declared.Length.{Length}
 use Rattle.tallies.specs.declared.Length.the-variants as length′
 use Rattle.tallies.specs.Tallies.{Totals, SumsOr}

@@ -121,7 +121,7 @@ pub fn correct(
     let admission = checks::admit_character(n, c, looked, tree, matrix, from1);
     match admission {
         Admission::Refused(refusal) => Count::Refused(refusal),
-        Admission::Admitted(_, _) => corrections::correct_in(
+        Admission::Admitted(_, _) => table_corrections::correct_in(
             n,
             c,
             taxon,

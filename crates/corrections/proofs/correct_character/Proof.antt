@@ -12,7 +12,7 @@ use Rattle.refusals.specs.Checks.{at, Clear}
 use Rattle.refusals.proofs.Laws.{finds-at, finds-nowhere}
 use Rattle.refusals.proofs.Order.{clear-at, clear-lowest}
 use Rattle.entries.specs.Entries.{BadBeside}
-use Rattle.corrections.proofs.Looking.{pathable, looks, has-path, count-few}
+use Rattle.repairs.proofs.Looking.{pathable, looks, has-path, count-few}
 use Rattle.corrections.proofs.correct_character.Statement.{statement}
 use Rattle.corrections.proofs.correct_character.Tie as tie
 

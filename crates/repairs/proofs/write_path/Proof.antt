@@ -7,9 +7,9 @@ use mathlib.Core.Logic.{inl, inr}
 use Prim.Native.Nat.{ℕ, _+_, _-_, _*_, _≤_, _<_}
 use lib.ListN.{length, getD, set}
 use Rattle.shapes.proofs.Ready.{ready}
-use Rattle.corrections.proofs.Writing.{cell-place, cell-small, mends-path, mended}
-use Rattle.corrections.proofs.write_path.Statement.{statement}
-use Rattle.corrections.proofs.write_path.Tie as tie
+use Rattle.repairs.proofs.Writing.{cell-place, cell-small, mends-path, mended}
+use Rattle.repairs.proofs.write_path.Statement.{statement}
+use Rattle.repairs.proofs.write_path.Tie as tie
 
 -- where the proof stands, and what came before
 abbrev descendants-of-mend-path-arg4 : tie.After-mend-path-arg4 → tie.After-descendants

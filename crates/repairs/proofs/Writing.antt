@@ -17,7 +17,7 @@ use Rattle.entries.specs.Entries.{Bad}
 use Rattle.entries.proofs.Searching.{clean}
 use Rattle.mending.specs.Mending.{Sound, MendsPath}
 use Rattle.mending.specs.Mending as mending
-use Rattle.corrections.specs.Corrections.{withCell, Mended, Mends}
+use Rattle.repairs.specs.Repairs.{withCell, Mended, Mends}
 
 -- an entry that is not bad is sound
 sound : (low high l : ℕ) → (Bad low high l → ⊥) → Sound low high l

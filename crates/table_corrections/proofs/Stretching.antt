@@ -10,9 +10,11 @@ use Rattle.tables.specs.Tables.{stretch, withStretch}
 use Rattle.tables.proofs.Stretches.{stretch-in, with-long, with-here, with-other}
 use Rattle.entries.specs.Entries.{AllCharacters}
 use Rattle.entries.proofs.Searching as searching
 use Rattle.corrections.specs.declared.Count.{Count}
 use Rattle.corrections.specs.declared.Count.the-variants.{Rewritten, Refused}
-use Rattle.corrections.specs.Corrections.{Corrected, Corrects, Correctable, SameStretch, CorrectedIn, CorrectsIn, CorrectableIn}
+use Rattle.repairs.specs.Repairs.{Correctable}
+use Rattle.corrections.specs.Corrections.{Corrected, Corrects}
+use Rattle.table_corrections.specs.TableCorrections.{SameStretch, CorrectedIn, CorrectsIn, CorrectableIn}
 
 module _ (n c t j : ℕ) (tree matrix lows highs lengths : List ℕ) (G : CorrectableIn n c t j tree matrix lows highs lengths) where
   -- where the stretch begins

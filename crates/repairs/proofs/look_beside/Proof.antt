@@ -7,9 +7,9 @@ use mathlib.Core.Logic.{inl, inr}
 use Prim.Native.Nat.{ℕ, _+_, _-_, _*_, _≤_, _<_}
 use lib.ListN.{length, getD, set}
 use Rattle.parsimony.proofs.Sums.{zeros}
-use Rattle.corrections.proofs.Looking.{marks-of, besides, found-beside}
-use Rattle.corrections.proofs.look_beside.Statement.{statement}
-use Rattle.corrections.proofs.look_beside.Tie as tie
+use Rattle.repairs.proofs.Looking.{marks-of, besides, found-beside}
+use Rattle.repairs.proofs.look_beside.Statement.{statement}
+use Rattle.repairs.proofs.look_beside.Tie as tie
 
 -- where the proof stands, and what came before
 abbrev start-of-marks : tie.After-marks → tie.Start

@@ -19,7 +19,7 @@ use Rattle.shapes.specs.Filling.{Pathable, IsPath}
 use Rattle.shapes.proofs.Paths.{path-at, path-all, path-short}
 use Rattle.shapes.proofs.Subtrees.{ancestor-in}
 use Rattle.entries.specs.Entries.{BadAt, BadBeside, Marks, Marked, BadMarked, Besides}
-use Rattle.corrections.specs.Corrections.{Correctable, HasPath, Looks}
+use Rattle.repairs.specs.Repairs.{Correctable, HasPath, Looks}
 
 -- a search for one thing finds another, where both hold of the same numbers
 pub finds-same : (P Q : ℕ → Type 0) (m : ℕ) → ((k : ℕ) → 1 ≤ k → k ≤ m → P k ↔ Q k) → (r : Found) → Finds P m r → Finds Q m r

@@ -6,9 +6,9 @@ use mathlib.Core.Path.{_≡_, refl, sym, _∙_, ap, subst}
 use mathlib.Core.Logic.{inl, inr}
 use Prim.Native.Nat.{ℕ, _+_, _-_, _*_, _≤_, _<_}
 use lib.ListN.{length, getD, set}
-use Rattle.corrections.proofs.Stretching.{ends-in, places-small, correctable, corrects}
-use Rattle.corrections.proofs.correct_in.Statement.{statement}
-use Rattle.corrections.proofs.correct_in.Tie as tie
+use Rattle.table_corrections.proofs.Stretching.{ends-in, places-small, correctable, corrects}
+use Rattle.table_corrections.proofs.correct_in.Statement.{statement}
+use Rattle.table_corrections.proofs.correct_in.Tie as tie
 
 -- where the proof stands, and what came before
 abbrev slice-known4-of-correct-character-arg4 : tie.After-correct-character-arg4 → tie.After-slice-known4

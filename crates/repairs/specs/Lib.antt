@@ -1,0 +1,3 @@
+-- The cell and the path of a correction.
+-- Assumes nothing.
+pub mod Repairs

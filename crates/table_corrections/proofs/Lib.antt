@@ -1,0 +1,3 @@
+-- A stretch of the kept table, lent on and put back (Stretching).
+-- Assumes nothing.
+pub mod Stretching
