@@ -23,7 +23,7 @@ use Rattle.checks.proofs.Orders.{admissible, rest-passes, character-passes, mat
 use Rattle.choices.specs.declared.Resolve.{Resolve}
 use Rattle.scores.specs.declared.Scores.{Scores}
 use Rattle.scores.specs.Scores.{TreeScores, Results, AllLong, CharacterMeans}
-use Rattle.scores.specs.Steps.{GivenOne}
+use Rattle.character_scores.specs.CharacterScores.{GivenOne}
 use Rattle.characters.specs.Afresh.{resultSlices, OneScored, AllScored}
 
 -- slices that are not refused are exact

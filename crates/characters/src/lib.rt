@@ -91,7 +91,7 @@ pub fn one_character(
     let admission = checks::admit_character(n, c, character, tree, matrix, from1);
     match admission {
         Admission::Refused(refusal) => Answer::Refused(refusal),
-        Admission::Admitted(root, top) => Answer::Scores(scores::score_one(
+        Admission::Admitted(root, top) => Answer::Scores(character_scores::score_one(
             n,
             c,
             character,

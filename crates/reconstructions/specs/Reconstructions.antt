@@ -11,11 +11,18 @@ use Rattle.parsimony.specs.Ordered.{ordered}
 use Rattle.parsimony.specs.Steps.{Chosen}
 use Rattle.parsimony.specs.Matrix.{stateOf}
 use Rattle.parsimony.specs.Character.{cells, ranges, wayOf}
+use Rattle.choices.specs.declared.Resolve.{Resolve}
+use Rattle.choices.specs.declared.Resolve.the-variants.{Acctran, Deltran}
 
 -- the states: they are chosen from the ranges, from the root down
 pub record Chooses (n c j ρ : ℕ) (tree matrix lows highs states : List ℕ) : Type 0 where
   pub long : length states ≡ n - 2
   pub chosen : Chosen ordered n (cells n (stateOf matrix c j)) tree ρ (ranges n (stateOf matrix c j) lows highs) (wayOf n (stateOf matrix c j) states)
+
+-- of two lists, the one that the states are chosen from
+abbrev pub listOf : {A : Type 0} → Resolve → (first final : A) → A
+listOf Acctran first final = first
+listOf Deltran first final = final
 
 -- ---- the steps
 

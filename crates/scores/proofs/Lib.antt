@@ -1,6 +1,4 @@
--- What the steps leave has its meaning, and there is one.
+-- The sums over all characters have their meaning (Summing), and what is found is one (Unique).
 -- Assumes nothing.
-pub mod Beginning
-pub mod Meaning
 pub mod Summing
 pub mod Unique

@@ -1,4 +1,4 @@
--- What is scored (Scores.antt), and the steps on the way (Steps.antt).
+-- What is scored (Scores.antt), and the step to it (Steps.antt).
 -- Assumes nothing.
 pub mod Scores
 pub mod Steps

@@ -30,23 +30,14 @@ use Rattle.shapes.specs.Shape.{Filled, IsOrder}
 use Rattle.shapes.specs.Filling.{Orders}
 use Rattle.indices.specs.Indices.{Readable}
 use Rattle.descents.specs.Descents.{Descends, Finals}
-use Rattle.reconstructions.specs.Reconstructions.{Chooses}
+use Rattle.reconstructions.specs.Reconstructions.{Chooses, listOf}
 use Rattle.choices.specs.declared.Resolve.{Resolve}
 use Rattle.choices.specs.declared.Resolve.the-variants.{Acctran, Deltran}
 use Rattle.scores.specs.declared.Scores.{Scores}
 use Rattle.scores.specs.Scores.{HasIndices, Results, AllLong, rangesOf, CharacterMeans}
-use Rattle.scores.specs.Steps.{HasScores, Given, BegunIn, listOf, GivenOne}
-
--- the states are chosen from the ranges that the choice names
-module _ (n c j ρ : ℕ) (tree matrix first-lows first-highs final-lows final-highs states : List ℕ) (resolve : Resolve) where
-  abbrev ChosenFrom : Type 0
-  ChosenFrom = Chooses n c j ρ tree matrix (listOf resolve first-lows final-lows) (listOf resolve first-highs final-highs) states
-
-  pub first-chosen : resolve ≡ Acctran → Chooses n c j ρ tree matrix first-lows first-highs states → ChosenFrom
-  first-chosen e C = rw e C
-
-  pub final-chosen : resolve ≡ Deltran → Chooses n c j ρ tree matrix final-lows final-highs states → ChosenFrom
-  final-chosen e C = rw e C
+use Rattle.first_passes.specs.FirstPasses.{Given, BegunIn}
+use Rattle.scores.specs.Steps.{HasScores}
+use Rattle.character_scores.specs.CharacterScores.{GivenOne}
 
 -- ---- what the steps ask
 

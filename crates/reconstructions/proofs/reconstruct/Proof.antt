@@ -5,9 +5,9 @@ use native.Mathlib.Omega.{arith}
 use mathlib.Core.Path.{_≡_, refl, sym, _∙_, ap, subst}
 use Prim.Native.Nat.{ℕ, _+_, _-_, _*_, _≤_, _<_}
 use lib.ListN.{length}
-use Rattle.scores.proofs.Meaning.{first-chosen, final-chosen}
-use Rattle.scores.proofs.reconstruct.Statement.{statement}
-use Rattle.scores.proofs.reconstruct.Tie as tie
+use Rattle.reconstructions.proofs.Resolving.{first-chosen, final-chosen}
+use Rattle.reconstructions.proofs.reconstruct.Statement.{statement}
+use Rattle.reconstructions.proofs.reconstruct.Tie as tie
 
 -- where the proof stands, and what came before
 abbrev enum-told-of-slice-known2 : tie.After-slice-known2 → tie.After-enum-told

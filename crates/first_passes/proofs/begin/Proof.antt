@@ -6,9 +6,9 @@ use mathlib.Core.Path.{_≡_, refl, sym, _∙_, ap, subst}
 use Prim.Native.Nat.{ℕ, _+_, _-_, _*_, _≤_, _<_}
 use lib.ListN.{length}
 use Rattle.passes.specs.Passes.{Passable}
-use Rattle.scores.proofs.Beginning.{passable, ends-here, begun}
-use Rattle.scores.proofs.begin.Statement.{statement}
-use Rattle.scores.proofs.begin.Tie as tie
+use Rattle.first_passes.proofs.Beginning.{passable, ends-here, begun}
+use Rattle.first_passes.proofs.begin.Statement.{statement}
+use Rattle.first_passes.proofs.begin.Tie as tie
 
 -- where the proof stands, and what came before
 abbrev take-lengths-of-length-of : tie.After-length-of → tie.After-take-lengths

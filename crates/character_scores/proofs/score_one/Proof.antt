@@ -9,11 +9,12 @@ use Rattle.shapes.proofs.Ready.{ready}
 use Rattle.parsimony.specs.Matrix.{stateOf}
 use Rattle.shapes.specs.Shape.{IsOrder}
 use Rattle.indices.proofs.Most.{m-most}
 use Rattle.scores.specs.Scores.{Results, CharacterMeans}
-use Rattle.scores.specs.Steps.{GivenOne, BegunIn}
-use Rattle.scores.proofs.Meaning.{orders, given, descends, readable, means}
-use Rattle.scores.proofs.score_one.Statement.{statement}
-use Rattle.scores.proofs.score_one.Tie as tie
+use Rattle.first_passes.specs.FirstPasses.{BegunIn}
+use Rattle.character_scores.specs.CharacterScores.{GivenOne}
+use Rattle.character_scores.proofs.Meaning.{orders, given, descends, readable, means}
+use Rattle.character_scores.proofs.score_one.Statement.{statement}
+use Rattle.character_scores.proofs.score_one.Tie as tie
 
 -- where the proof stands, and what came before
 abbrev descendants-of-order : tie.After-order → tie.After-descendants

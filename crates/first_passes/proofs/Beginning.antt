@@ -14,7 +14,7 @@ use Rattle.shapes.specs.Filling.{Orders}
 use Rattle.blocks.specs.Blocks.{Room}
 use Rattle.passes.specs.Passes.{Passable, Passed, PassedIn, Taken, Ends, lengthAt}
 use Rattle.passes.proofs.Passing.{one-settles, one-fits, ends, length-is}
-use Rattle.scores.specs.Steps.{Given, BegunIn}
+use Rattle.first_passes.specs.FirstPasses.{Given, BegunIn}
 
 module _ (n c j ρ δ : ℕ) (left right matrix : List ℕ) (G : Given n c j ρ δ left right matrix) where
   -- the character after the first j - 1

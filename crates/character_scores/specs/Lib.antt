@@ -1,0 +1,3 @@
+-- What the passes over one character ask.
+-- Assumes nothing.
+pub mod CharacterScores

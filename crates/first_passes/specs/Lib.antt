@@ -1,0 +1,3 @@
+-- The first pass of one character.
+-- Assumes nothing.
+pub mod FirstPasses
