@@ -1,2 +1,2 @@
--- How long the parts of a report are.
+-- No lemma files: what the proofs cite is in the crates below.
 -- Assumes nothing.

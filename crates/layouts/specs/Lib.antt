@@ -1,4 +1,4 @@
--- The lines of a report, as text.
+-- The lines of a report for one character, as text.
 -- Assumes nothing.
 pub mod Report
 -- the room of its parts

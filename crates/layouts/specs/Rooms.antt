@@ -1,24 +1,9 @@
--- What the parts of a report are given, and the room of each: no part has more bytes, whatever its numbers are.
+-- What the lines for a character are given, and the room of its parts: none has more bytes, whatever its numbers are.
 -- Assumes nothing.
 use mathlib.Core.Path.{_≡_}
 use mathlib.Core.List.{List}
 use Prim.Native.Nat.{ℕ, _+_, _*_, _<_}
 use lib.ListN.{length}
-use Rattle.scores.specs.declared.Scores.{Scores}
-use Rattle.fields.specs.Proper.{Proper}
-
--- both indices are at most 1
-pub record Indexed (s : Scores) : Type 0 where
-  pub ci : Proper (s .ci)
-  pub ri : Proper (s .ri)
-
--- the room of the two indices: for each a key of 3 bytes, two numbers of 10 digits, a third of 4, two bytes between, and LF
-abbrev pub indexRoom : ℕ
-indexRoom = 60
-
--- the room of the lines for the tree: 16, 22 and 18 bytes, the indices, and 16
-abbrev pub treeRoom : ℕ
-treeRoom = 132
 
 -- the room of the lines that list w interior nodes: for each node 12, 12 and 6 bytes; and 7, 5 and 8
 abbrev pub nodeRoom : ℕ → ℕ
@@ -27,10 +12,6 @@ nodeRoom w = 20 + 30 * w
 -- the room of the lines for a character: 21 and 18 bytes, its nodes, and the indices
 abbrev pub characterRoom : ℕ → ℕ
 characterRoom w = 119 + 30 * w
-
--- the room of a refusal: 8, 10, 1, 10 and 1 bytes
-abbrev pub refusedRoom : ℕ
-refusedRoom = 30
 
 -- five lists have an entry for each interior node, of which there are some: the ends of the first-pass ranges, those of the final ranges, and the
 -- chosen states

@@ -10,7 +10,7 @@ use Rattle.choices.specs.declared.Resolve.the-variants.{Acctran}
 use Rattle.scores.specs.declared.Scores.{Scores}
 use Rattle.fields.specs.Fields.{index}
 use Rattle.listings.specs.Ranges.{moreRanges, ranges}
-use Rattle.layouts.specs.Report.{refusedLine}
+use Rattle.summaries.specs.Report.{refusedLine}
 use Rattle.turns.specs.Lines.{Found}
 use Rattle.reports.specs.Says.{reportText}
 

@@ -20,8 +20,9 @@ use Rattle.scores.specs.declared.Scores.{Scores}
 use Rattle.characters.specs.Afresh.{AllScored}
 use Rattle.fields.specs.Fitting.{Fitting}
 use Rattle.fields.proofs.Room.{looser, fitting-both}
-use Rattle.layouts.specs.Report.{treeLines, refusedLine}
-use Rattle.layouts.specs.Rooms.{treeRoom, characterRoom, refusedRoom}
+use Rattle.summaries.specs.Report.{treeLines, refusedLine}
+use Rattle.summaries.specs.Rooms.{treeRoom, refusedRoom}
+use Rattle.layouts.specs.Rooms.{characterRoom}
 use Rattle.reports.specs.Says.{reportText, Scored, report, refusal, sheet, none, Prints}
 use Rattle.reports.specs.Steps.{Sized, Whole, Told}
 use Rattle.turns.specs.Lines.{linesTo, Some}

@@ -12,7 +12,7 @@ use Rattle.forms.specs.Faults.{textChecks}
 use Rattle.fields.specs.Fields.{thousandths}
 use Rattle.fields.specs.Proper.{AtMost}
 use Rattle.fields.proofs.Rounding as rounding
-use Rattle.layouts.specs.Report.{refusedLine}
+use Rattle.summaries.specs.Report.{refusedLine}
 use Rattle.reports.specs.declared.ReportAnswer.{ReportAnswer}
 use Rattle.reports.specs.declared.ReportAnswer.the-variants.{Written, Refused}
 use Rattle.reports.specs.Says.{Scored, Says, none, Reports}

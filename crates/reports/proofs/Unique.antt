@@ -17,7 +17,7 @@ use Rattle.scores.specs.declared.Scores.{Scores}
 use Rattle.scores.specs.Scores.{Results}
 use Rattle.characters.specs.declared.Answer.the-variants as answer
 use Rattle.characters.proofs.Unique.{one-character-outcome, all-characters-answer}
-use Rattle.layouts.specs.Report.{treeLines, refusedLine}
+use Rattle.summaries.specs.Report.{treeLines, refusedLine}
 use Rattle.reports.specs.declared.ReportAnswer.{ReportAnswer}
 use Rattle.reports.specs.declared.ReportAnswer.the-variants.{Written, Refused}
 use Rattle.reports.specs.Says.{reportText, Means, Scored, report, refusal, Says, sheet, none, outSlice, Reports}

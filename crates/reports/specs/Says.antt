@@ -15,7 +15,7 @@ use Rattle.forms.specs.Faults.{textChecks}
 use Rattle.scores.specs.declared.Scores.{Scores}
 use Rattle.scores.specs.Scores.{CharacterMeans}
 use Rattle.characters.specs.Afresh.{AllScored}
-use Rattle.layouts.specs.Report.{treeLines, refusedLine}
+use Rattle.summaries.specs.Report.{treeLines, refusedLine}
 use Rattle.turns.specs.Lines.{Found, linesTo}
 use Rattle.reports.specs.declared.ReportAnswer.{ReportAnswer}
 use Rattle.reports.specs.declared.ReportAnswer.the-variants.{Written, Refused}

@@ -30,10 +30,10 @@ fn put_report(
     let got = characters::all_characters(n as usize, c as usize, tree, matrix);
     match got {
         Answer::Scores(scores) => {
-            let next = layouts::put_tree(out, 0, n, c, scores, resolve);
+            let next = summaries::put_tree(out, 0, n, c, scores, resolve);
             turns::put_characters(n, c, resolve, tree, matrix, out, next)
         }
-        Answer::Refused(refusal) => layouts::put_refusal(out, 0, refusal.number, refusal.place),
+        Answer::Refused(refusal) => summaries::put_refusal(out, 0, refusal.number, refusal.place),
     }
 }
 
@@ -49,7 +49,7 @@ fn put_text(text: &[u8], tree: &mut [u16], matrix: &mut [u16], out: &mut [u8]) -
             let cells = (n as usize) * (c as usize);
             put_report(n, c, resolve, &tree[..nodes], &matrix[..cells], out)
         }
-        SheetAnswer::Refused(refusal) => layouts::put_refusal(
+        SheetAnswer::Refused(refusal) => summaries::put_refusal(
             out,
             0,
             refusal.number,

@@ -16,7 +16,7 @@ use Rattle.indices.specs.Indices.{indexOf}
 use Rattle.scores.specs.declared.Scores.{Scores}
 use Rattle.scores.specs.Scores.{HasIndices, CharacterScores, TreeScores}
 use Rattle.fields.specs.Proper.{AtMost, Proper}
-use Rattle.layouts.specs.Rooms.{Indexed}
+use Rattle.summaries.specs.Rooms.{Indexed}
 
 -- a fraction is not none, and is known by its numbers
 no-fraction : (a b : ℕ) → index.fraction a b ≡ index.none → ⊥

@@ -23,8 +23,9 @@ use Rattle.characters.specs.Afresh.{OneScored}
 use Rattle.fields.specs.Fitting.{Fitting}
 use Rattle.fields.proofs.Pieces.{written-none}
 use Rattle.fields.proofs.Room.{looser, fitting-both}
+use Rattle.summaries.specs.Rooms.{treeRoom}
 use Rattle.layouts.specs.Report.{characterLines}
-use Rattle.layouts.specs.Rooms.{treeRoom, characterRoom, Lists}
+use Rattle.layouts.specs.Rooms.{characterRoom, Lists}
 use Rattle.turns.specs.Lines.{Found, linesTo, One, Some}
 
 -- ---- the room

@@ -9,8 +9,10 @@ use Rattle.fields.specs.Fields as fields
 use Rattle.fields.proofs.Room.{looser, fitting-both, fitting-rest}
 use Rattle.numbers.specs.Printed.{decimal}
 use Rattle.scores.specs.Scores.{Results}
+use Rattle.summaries.specs.Report.{lengthKey, indexLines}
+use Rattle.summaries.specs.Rooms.{indexRoom}
 use Rattle.layouts.specs.Report as text
-use Rattle.layouts.specs.Rooms.{indexRoom, nodeRoom, characterRoom}
+use Rattle.layouts.specs.Rooms.{nodeRoom, characterRoom}
 use Rattle.layouts.proofs.put_character.Statement.{statement}
 use Rattle.layouts.proofs.put_character.Tie as tie
 
@@ -76,13 +78,13 @@ abbrev numbered : tie.Start → List ℕ
 numbered s = fields.field text.characterKey (decimal (s .args .character))
 
 abbrev long : tie.Start → List ℕ
-long s = fields.field text.lengthKey (decimal (s .args .scores .length))
+long s = fields.field lengthKey (decimal (s .args .scores .length))
 
 abbrev nodes : tie.Start → List ℕ
 nodes s = text.nodeLines (results s)
 
 abbrev indices : tie.Start → List ℕ
-indices s = text.indexLines (s .args .scores)
+indices s = indexLines (s .args .scores)
 
 -- the room of the nodes
 abbrev room : tie.Start → ℕ

@@ -8,8 +8,9 @@ use Rattle.characters.specs.declared.Answer.{Answer}
 use Rattle.characters.specs.declared.Answer.the-variants.{Scores}
 use Rattle.characters.specs.Afresh.{AllAnswers}
 use Rattle.fields.proofs.Room.{fitting-rest}
-use Rattle.layouts.specs.Report.{treeLines}
-use Rattle.layouts.specs.Rooms.{treeRoom, characterRoom}
+use Rattle.summaries.specs.Report.{treeLines}
+use Rattle.summaries.specs.Rooms.{treeRoom}
+use Rattle.layouts.specs.Rooms.{characterRoom}
 use Rattle.turns.proofs.Proper.{indexed-tree}
 use Rattle.turns.proofs.Ready.{ready}
 use Rattle.turns.proofs.Writing.{characters-room}

@@ -3,8 +3,8 @@
 use borrow.Author.Needs.{needs}
 use native.Mathlib.Omega.{arith}
 use Rattle.fields.proofs.Room.{whole}
-use Rattle.layouts.proofs.put_resolve.Statement.{statement}
-use Rattle.layouts.proofs.put_resolve.Tie as tie
+use Rattle.summaries.proofs.put_resolve.Statement.{statement}
+use Rattle.summaries.proofs.put_resolve.Tie as tie
 
 -- where the proof stands, and what came before
 abbrev start-of-put-bytes-arg2 : tie.After-put-bytes-arg2 → tie.Start

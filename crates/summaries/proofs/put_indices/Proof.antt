@@ -7,9 +7,9 @@ use native.Mathlib.Omega.{arith}
 use lib.ListN.{length}
 use Rattle.fields.specs.Fields as fields
 use Rattle.fields.proofs.Room.{looser, fitting-both, fitting-rest}
-use Rattle.layouts.specs.Report as text
-use Rattle.layouts.proofs.put_indices.Statement.{statement}
-use Rattle.layouts.proofs.put_indices.Tie as tie
+use Rattle.summaries.specs.Report as text
+use Rattle.summaries.proofs.put_indices.Statement.{statement}
+use Rattle.summaries.proofs.put_indices.Tie as tie
 
 -- where the proof stands, and what came before
 abbrev start-of-put-index-arg2 : tie.After-put-index-arg2 → tie.Start

@@ -8,9 +8,9 @@ use lib.ListN.{length}
 use Rattle.fields.specs.Fields as fields
 use Rattle.fields.proofs.Room.{ten-digits, whole, looser, fitting-both, fitting-rest}
 use Rattle.numbers.specs.Printed.{decimal}
-use Rattle.layouts.specs.Report as text
-use Rattle.layouts.proofs.put_refusal.Statement.{statement}
-use Rattle.layouts.proofs.put_refusal.Tie as tie
+use Rattle.summaries.specs.Report as text
+use Rattle.summaries.proofs.put_refusal.Statement.{statement}
+use Rattle.summaries.proofs.put_refusal.Tie as tie
 
 -- where the proof stands, and what came before
 abbrev put-number-of-put-byte-arg : tie.After-put-byte-arg → tie.After-put-number

@@ -9,9 +9,9 @@ use Rattle.fields.specs.Fields as fields
 use Rattle.fields.proofs.Room.{looser, fitting-both, fitting-rest}
 use Rattle.numbers.specs.Printed.{decimal}
 use Rattle.forms.specs.Sheets.{taxaKey, charactersKey, resolveLine}
-use Rattle.layouts.specs.Report as text
-use Rattle.layouts.proofs.put_tree.Statement.{statement}
-use Rattle.layouts.proofs.put_tree.Tie as tie
+use Rattle.summaries.specs.Report as text
+use Rattle.summaries.proofs.put_tree.Statement.{statement}
+use Rattle.summaries.proofs.put_tree.Tie as tie
 
 -- where the proof stands, and what came before
 abbrev start-of-put-count-arg2 : tie.After-put-count-arg2 → tie.Start

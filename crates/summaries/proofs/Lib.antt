@@ -1,0 +1,2 @@
+-- No lemma files: what the proofs cite is in the crates below.
+-- Assumes nothing.
