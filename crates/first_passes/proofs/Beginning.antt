@@ -12,8 +12,9 @@ use Rattle.parsimony.specs.Matrix.{stateOf}
 use Rattle.parsimony.specs.Character.{atNode, cells, ranges, sizes}
 use Rattle.shapes.specs.Filling.{Orders}
 use Rattle.blocks.specs.Blocks.{Room}
-use Rattle.passes.specs.Passes.{Passable, Passed, PassedIn, Taken, Ends, lengthAt}
-use Rattle.passes.proofs.Passing.{one-settles, one-fits, ends, length-is}
+use Rattle.passes.specs.Passes.{Passable, Passed}
+use Rattle.entry_lists.specs.EntryLists.{Taken, Ends, lengthAt}
+use Rattle.entry_lists.proofs.Passed.{one-settles, one-fits, ends, length-is}
 use Rattle.first_passes.specs.FirstPasses.{Given, BegunIn}
 
 module _ (n c j ρ δ : ℕ) (left right matrix : List ℕ) (G : Given n c j ρ δ left right matrix) where

@@ -39,8 +39,8 @@ pub fn begin(
         &mut block_highs,
         &mut block_lengths,
     );
-    passes::take_ends(n, 1, 1, &block_lows, lows);
-    passes::take_ends(n, 1, 1, &block_highs, highs);
-    passes::take_lengths(n, 1, 1, &block_lengths, lengths);
-    passes::length_of(root, top, 1, 1, &block_lows, &block_highs, &block_lengths)
+    entry_lists::take_ends(n, 1, 1, &block_lows, lows);
+    entry_lists::take_ends(n, 1, 1, &block_highs, highs);
+    entry_lists::take_lengths(n, 1, 1, &block_lengths, lengths);
+    entry_lists::length_of(root, top, 1, 1, &block_lows, &block_highs, &block_lengths)
 }

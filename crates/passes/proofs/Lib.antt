@@ -1,5 +1,4 @@
--- How rows are loaded, what the pass leaves, and how one character is taken out.
+-- How rows are loaded, and what the pass leaves.
 -- Assumes nothing.
-pub mod Loading
-pub mod Passing
-pub mod Taking
+mod Loading
+mod Passing

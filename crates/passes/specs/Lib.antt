@@ -1,3 +1,3 @@
--- The first pass over a block of characters, and one character of it.
+-- The first pass over a block of characters.
 -- Assumes nothing.
 pub mod Passes

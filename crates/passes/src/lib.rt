@@ -1,10 +1,7 @@
-// The first pass over a block of characters: the taxa's rows are loaded, and the tree is walked. Then one character's entries are taken out of it.
-use ranges::Range;
-use refusals::long;
+// The first pass over a block of characters: the taxa's rows are loaded, and the tree is walked.
 ghost use mathlib.Core.Path.{_≡_};
-ghost use Prim.Native.Nat.{ℕ, _-_, _≤_, _<_, min};
-ghost use lib.ListN.{length};
-ghost use Rattle.passes.specs.Passes.{Loads, LoadedRow, Loaded, Passable, Passed, Takes, Taken, Ends, lengthAt};
+ghost use Prim.Native.Nat.{_≤_, min};
+ghost use Rattle.passes.specs.Passes.{Loads, LoadedRow, Loaded, Passable, Passed};
 
 // The number of characters in the next block: 8, or as many as are left.
 pub fn width(left: usize) -> usize
@@ -81,54 +78,4 @@ pub fn first_pass(
 {
     load(n, c, past, w, matrix, lows, highs, lengths);
     blocks::walk(top, 2 * n - 1, n, w, left, right, lows, highs, lengths);
-}
-
-// Takes one of the w characters out of a list of ends: its entries at the interior nodes, the node n + 1 first.
-pub fn take_ends(n: usize, w: usize, i: usize, block: &[u16; 4080], entries: &mut [u16])
-    requires { ⌜ Takes n w i (now entries) ⌝ }
-    ensures { λ _. ⌜ Taken n w i (now (block .entry)) (now (entries .exit)) ⌝ }
-{
-    let mut k: usize = 0;
-    while k < n - 2 {
-        entries[k] = block[(n + k) * w + (i - 1)];
-        k += 1;
-    }
-}
-
-// The same, out of the list of lengths.
-pub fn take_lengths(n: usize, w: usize, i: usize, block: &[u32; 4080], entries: &mut [u32])
-    requires { ⌜ Takes n w i (now entries) ⌝ }
-    ensures { λ _. ⌜ Taken n w i (now (block .entry)) (now (entries .exit)) ⌝ }
-{
-    let mut k: usize = 0;
-    while k < n - 2 {
-        entries[k] = block[(n + k) * w + (i - 1)];
-        k += 1;
-    }
-}
-
-// The length of one of the w characters: what is below the root's descendant, and the distance from there to the root's state.
-pub fn length_of(
-    root: usize,
-    top: usize,
-    w: usize,
-    i: usize,
-    lows: &[u16; 4080],
-    highs: &[u16; 4080],
-    lengths: &[u32; 4080],
-) -> u32
-    requires { ⌜ Ends root top w i (now lows) (now highs) (now lengths) ⌝ }
-    ensures { λ r. ⌜ r ≡ lengthAt root top w i (now (lows .entry)) (now (highs .entry)) (now (lengths .entry)) ⌝ }
-{
-    let at = (root - 1) * w + (i - 1);
-    let below = (top - 1) * w + (i - 1);
-    let state = Range {
-        low: lows[at],
-        high: highs[at],
-    };
-    let range = Range {
-        low: lows[below],
-        high: highs[below],
-    };
-    lengths[below] + long(ranges::cost(state, range))
 }

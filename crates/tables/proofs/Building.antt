@@ -14,9 +14,9 @@ use Rattle.parsimony.proofs.Characters.{first-means}
 use Rattle.parsimony.proofs.Tables.Trees.{Tree}
 use Rattle.shapes.specs.Filling.{Orders}
 use Rattle.blocks.specs.Blocks.{Room}
-use Rattle.passes.specs.Passes as passes
 use Rattle.passes.specs.Passes.{Passable, Passed, PassedIn}
-use Rattle.passes.proofs.Passing.{one-settles, one-fits}
+use Rattle.entry_lists.specs.EntryLists as lists
+use Rattle.entry_lists.proofs.Passed.{one-settles, one-fits}
 use Rattle.totals.specs.Totals.{Cells}
 use Rattle.tables.specs.Tables.{stretch, withStretch, TableLong, TableMeans, Settles, BuiltTo, TakenAll, Takes, Builds}
 use Rattle.tables.proofs.Stretches.{stretch-in, stretch-long, with-long, with-here, with-other}
@@ -73,7 +73,7 @@ module _ (n c ρ δ : ℕ) (left right matrix : List ℕ) where
       -- q is how long the stretch is, said by its two ends
       module _ (q : ℕ) (e : q ≡ n - 2) where
         part-takes : (entries : List ℕ) → (past + i) * (n - 2) + (n - 2) ≤ length entries
-            → passes.Takes n w (i + 1) (take q (drop ((past + i) * (n - 2)) entries))
+            → lists.Takes n w (i + 1) (take q (drop ((past + i) * (n - 2)) entries))
         part-takes entries h =
             record {
               least = S .taxa .0;
@@ -86,9 +86,9 @@ module _ (n c ρ δ : ℕ) (left right matrix : List ℕ) where
                   (stretch-long (n - 2) entries j (subst (λ k. k * (n - 2) + (n - 2) ≤ length entries) (sym this) h));
             }
 
-        pub takes-all : passes.Takes n w (i + 1) (take q (drop ((past + i) * (n - 2)) lows))
-            × passes.Takes n w (i + 1) (take q (drop ((past + i) * (n - 2)) highs))
-            × passes.Takes n w (i + 1) (take q (drop ((past + i) * (n - 2)) lengths))
+        pub takes-all : lists.Takes n w (i + 1) (take q (drop ((past + i) * (n - 2)) lows))
+            × lists.Takes n w (i + 1) (take q (drop ((past + i) * (n - 2)) highs))
+            × lists.Takes n w (i + 1) (take q (drop ((past + i) * (n - 2)) lengths))
         takes-all = (part-takes lows in-lows, part-takes highs in-highs, part-takes lengths in-lengths)
 
       module _ (pl ph ps : List ℕ) (T : TakenAll n w (i + 1) bl bh bs pl ph ps) where

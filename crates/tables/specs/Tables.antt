@@ -11,7 +11,8 @@ use Rattle.parsimony.specs.Matrix.{stateOf}
 use Rattle.parsimony.specs.Character.{atNode, cells, ranges, sizes, FirstMeans}
 use Rattle.shapes.specs.Filling.{Orders}
 use Rattle.blocks.specs.Blocks.{Room}
-use Rattle.passes.specs.Passes.{Taken, PassedIn}
+use Rattle.passes.specs.Passes.{PassedIn}
+use Rattle.entry_lists.specs.EntryLists.{Taken}
 use Rattle.totals.specs.Totals.{Cells}
 
 -- the stretch of the character j, where each has w entries

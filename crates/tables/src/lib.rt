@@ -1,7 +1,7 @@
 // Builds the kept table of a matrix: the first pass of every character, each into its own stretch.
 ghost use Rattle.tables.specs.Tables.{TableLong, TableMeans, TakenAll, Takes, BuiltTo, Builds};
 ghost use Rattle.totals.specs.Totals.{Given};
-ghost use Rattle.passes.specs.Passes as passes;
+ghost use Rattle.entry_lists.specs.EntryLists as lists;
 ghost use Prim.Native.Nat.{ℕ, _+_};
 
 // Takes one of the w characters of a block into its stretch of the table.
@@ -16,13 +16,13 @@ fn take_character(
     highs: &mut [u16],
     lengths: &mut [u32],
 )
-    requires { ⌜ passes.Takes n w i (now lows) × passes.Takes n w i (now highs) × passes.Takes n w i (now lengths) ⌝ }
+    requires { ⌜ lists.Takes n w i (now lows) × lists.Takes n w i (now highs) × lists.Takes n w i (now lengths) ⌝ }
     ensures { λ _. ⌜ TakenAll n w i (now («block_lows» .entry)) (now («block_highs» .entry)) (now («block_lengths» .entry))
         (now (lows .exit)) (now (highs .exit)) (now (lengths .exit)) ⌝ }
 {
-    passes::take_ends(n, w, i, block_lows, lows);
-    passes::take_ends(n, w, i, block_highs, highs);
-    passes::take_lengths(n, w, i, block_lengths, lengths);
+    entry_lists::take_ends(n, w, i, block_lows, lows);
+    entry_lists::take_ends(n, w, i, block_highs, highs);
+    entry_lists::take_lengths(n, w, i, block_lengths, lengths);
 }
 
 // Takes each of the w characters of a block; `past` characters come before it. Each character's stretch is lent on from the middle of the whole.

@@ -20,8 +20,9 @@ use Rattle.parsimony.proofs.Tables.Whole.{whole}
 use Rattle.parsimony.proofs.Tables.Ways.{whole-least}
 use Rattle.shapes.specs.Filling.{Orders}
 use Rattle.blocks.specs.Blocks.{Room}
-use Rattle.passes.specs.Passes.{Passable, Passed, Ends, lengthAt}
-use Rattle.passes.proofs.Passing.{ends, length-is, length-small}
+use Rattle.passes.specs.Passes.{Passable, Passed}
+use Rattle.entry_lists.specs.EntryLists.{lengthAt}
+use Rattle.entry_lists.proofs.Passed.{ends, length-is, length-small}
 use Rattle.totals.specs.Totals.{Small, Cells, GivenBlocks, HasLength, Adds, added}
 
 module _ (n c ρ δ : ℕ) (left right matrix : List ℕ) where

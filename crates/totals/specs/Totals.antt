@@ -13,7 +13,7 @@ use Rattle.parsimony.specs.Character.{cells}
 use Rattle.trees.specs.Answers.{Sized}
 use Rattle.shapes.specs.Filling.{Orders}
 use Rattle.blocks.specs.Blocks.{Room}
-use Rattle.passes.specs.Passes.{Ends, lengthAt}
+use Rattle.entry_lists.specs.EntryLists.{Ends, lengthAt}
 
 -- no state of the c characters is above 9999
 abbrev pub Small : (n c : ℕ) (matrix : List ℕ) → Type 0

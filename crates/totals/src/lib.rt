@@ -23,7 +23,7 @@ fn add_block(
     let mut total = sum;
     let mut i: usize = 0;
     while i < w {
-        total += passes::length_of(root, top, w, i + 1, lows, highs, lengths);
+        total += entry_lists::length_of(root, top, w, i + 1, lows, highs, lengths);
         i += 1;
     }
     total

@@ -6,7 +6,7 @@ use mathlib.Core.Path.{_≡_, refl, sym, _∙_, ap, subst}
 use Prim.Native.Nat.{ℕ, _+_, _-_, _*_, _≤_, _<_}
 use lib.ListN.{length}
 use Rattle.parsimony.proofs.Sums.{sum-next}
-use Rattle.passes.specs.Passes.{lengthAt}
+use Rattle.entry_lists.specs.EntryLists.{lengthAt}
 use Rattle.totals.specs.Totals.{added}
 use Rattle.totals.proofs.add_block.Statement.{statement}
 use Rattle.totals.proofs.add_block.Tie as tie

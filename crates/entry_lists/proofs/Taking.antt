@@ -12,7 +12,7 @@ use Rattle.parsimony.specs.Ordered.{span}
 use Rattle.parsimony.specs.Matrix.{stateOf}
 use Rattle.parsimony.specs.Character.{atNode}
 use Rattle.blocks.proofs.Rows.{place-in}
-use Rattle.passes.specs.Passes.{Takes, Taken, Ends, lengthAt}
+use Rattle.entry_lists.specs.EntryLists.{Takes, Taken, Ends, lengthAt}
 
 -- the first k entries are taken
 pub record TakenTo (n w i k : ℕ) (block entries : List ℕ) : Type 0 where

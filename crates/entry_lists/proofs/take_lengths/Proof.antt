@@ -6,9 +6,9 @@ use native.Mathlib.Omega.{arith}
 use mathlib.Core.Path.{_≡_, refl, sym, _∙_, ap, ap₂, subst}
 use Prim.Native.Nat.{ℕ, suc, _+_, _-_, _*_, _≤_, _<_}
 use lib.ListN.{length, getD}
-use Rattle.passes.proofs.Taking.{TakenTo, taken-none, place, taken-more, taken-all}
-use Rattle.passes.proofs.take_lengths.Statement.{statement}
-use Rattle.passes.proofs.take_lengths.Tie as tie
+use Rattle.entry_lists.proofs.Taking.{TakenTo, taken-none, place, taken-more, taken-all}
+use Rattle.entry_lists.proofs.take_lengths.Statement.{statement}
+use Rattle.entry_lists.proofs.take_lengths.Tie as tie
 
 abbrev Inv-loop : tie.InvT-loop
 Inv-loop n w i block entries₀ k₀ entries k = TakenTo n w i k block entries

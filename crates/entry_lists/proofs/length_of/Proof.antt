@@ -5,9 +5,9 @@ use native.Mathlib.Omega.{arith}
 use mathlib.Core.Path.{_≡_, refl, sym, _∙_, ap, ap₂, subst}
 use Prim.Native.Nat.{ℕ, suc, _+_, _-_, _*_, _≤_, _<_}
 use lib.ListN.{length, getD}
-use Rattle.passes.proofs.Taking.{root-place, top-place, ranges-fit, below-small, length-here}
-use Rattle.passes.proofs.length_of.Statement.{statement}
-use Rattle.passes.proofs.length_of.Tie as tie
+use Rattle.entry_lists.proofs.Taking.{root-place, top-place, ranges-fit, below-small, length-here}
+use Rattle.entry_lists.proofs.length_of.Statement.{statement}
+use Rattle.entry_lists.proofs.length_of.Tie as tie
 
 -- where the proof stands, and what came before
 abbrev start-of-t202 : tie.After-t202 → tie.Start

@@ -1,0 +1,3 @@
+-- One character of a block: its entries, and its length.
+-- Assumes nothing.
+pub mod EntryLists
