@@ -1,11 +1,9 @@
 -- The entries of a table taken one by one: stray entries, and the descendants of the nodes, counted.
 -- Assumes nothing.
 use mathlib.Core.Path.{_≡_, refl, sym, _∙_, ap, subst}
-use mathlib.Core.Logic.{_≢_, _⊎_}
-use mathlib.Core.Bool.{Bool, true, false}
 use mathlib.Core.List.{List, [], _∷_, _++_}
 use Prim.Native.Nat.{ℕ, zero, suc, _+_, _≤_, _<_}
-use native.Mathlib.Decide.{ℕ-discrete, decLe}
+use native.Mathlib.Decide.{ℕ-discrete}
 use native.Mathlib.Numerals.{add-one}
 use native.Mathlib.Omega.{arith}
 use lib.ListN.{length, getD, set, replicate, length-replicate}
@@ -17,7 +15,7 @@ use Rattle.parsimony.proofs.Tables.Descendants.{length-having}
 use Rattle.refusals.specs.Search.{Lowest, Never}
 use Rattle.refusals.proofs.Laws.{never-more, lowest-here}
 use Rattle.faults.specs.Faults.{StrayEntry, WrongCount}
-use Rattle.faults.specs.Finding.{Strays, Wrong, InTable, Cleared, Counted, Named}
+use Rattle.faults.specs.Finding.{Strays, Wrong, InTable, Cleared, Counted}
 use Rattle.parsimony.proofs.Tables.Descendants.{entry-at}
 
 -- ---- stray entries
@@ -101,32 +99,3 @@ module _ (tree : List ℕ) where
 -- a list of zeros is cleared
 pub cleared : Cleared (replicate 511 0)
 cleared = record { long = length-replicate {A = ℕ} 511 0; zero = zeros 511 }
-
--- ---- the lowest node that names the root
-
-module _ (ρ : ℕ) (tree : List ℕ) where
-  -- none of the first k entries is ρ, and k is a place of the table
-  pub record Looking (k : ℕ) : Type 0 where
-    pub inside : k < length tree
-    pub not-yet : (j : ℕ) → 1 ≤ j → j ≤ k → ancestor tree j ≢ ρ
-
-  pub looking-none : Named ρ tree → Looking 0
-  looking-none (d, p, q, e) = record { inside = omega arith; not-yet = λ j a b. omega arith }
-
-  pub looking-more : (k : ℕ) → Named ρ tree → Looking k → getD tree k 0 ≢ ρ → Looking (k + 1)
-  looking-more k (d, p, q, e) h r =
-      record {
-        inside = inside (decLe d (k + 1));
-        not-yet = later;
-      }
-    where
-      later : (j : ℕ) → 1 ≤ j → j ≤ k + 1 → ancestor tree j ≢ ρ
-      later j a b = go (ℕ-discrete j (k + 1))
-        where
-          go : Dec (j ≡ k + 1) → ancestor tree j ≢ ρ
-          go (yes s) t = r (sym (entry-at tree k) ∙ ap (ancestor tree) (sym s) ∙ t)
-          go (no s) t = h .not-yet j a (omega arith) t
-
-      inside : Dec (d ≤ k + 1) → k + 1 < length tree
-      inside (yes s) = absurd (later d p s e)
-      inside (no s) = omega arith

@@ -1,24 +1,11 @@
--- What the checks of a table ask and find on the way: the contracts of the functions behind `check_tree`.
+-- What the searches for the faults ask, and what they find on the way: the contracts of the functions behind `check_below`.
 -- Assumes nothing.
 use mathlib.Core.Path.{_≡_}
 use mathlib.Core.Logic.{_≢_, _⊎_}
-use mathlib.Core.Bool.{Bool, true, false}
 use mathlib.Core.List.{List}
-use Prim.Native.Nat.{ℕ, suc, _+_, _≤_, _<_}
+use Prim.Native.Nat.{ℕ, _≤_, _<_}
 use lib.ListN.{length, getD}
-use Rattle.parsimony.specs.Table.{ancestor, descendants, climb}
-use Rattle.refusals.specs.declared.Found.{Found}
-use Rattle.refusals.specs.declared.Found.the-variants as found
-use Rattle.refusals.specs.Search.{Lowest}
-use Rattle.faults.specs.declared.Root.{Root}
-use Rattle.faults.specs.declared.Root.the-variants.{At, Stray, Missing}
-use Rattle.faults.specs.Faults.{IsRoot, StrayZero, NoZero, Lost}
-
--- what the search for the root found
-abbrev pub FindsRoot : ℕ → List ℕ → Root → Type 0
-FindsRoot n tree (At ρ) = IsRoot n tree ρ
-FindsRoot n tree (Stray k) = Lowest (StrayZero n tree) (length tree) k
-FindsRoot n tree Missing = NoZero n tree
+use Rattle.parsimony.specs.Table.{ancestor, descendants}
 
 -- an entry is stray in a table of m nodes: it is above them, or names a taxon that is not the root
 abbrev pub Strays : (n ρ m entry : ℕ) → Type 0
@@ -41,7 +28,3 @@ pub record Cleared (counts : List ℕ) : Type 0 where
 -- entry v is the number of the descendants of v
 abbrev pub Counted : List ℕ → List ℕ → Type 0
 Counted tree counts = (v : ℕ) → 1 ≤ v → v ≤ length tree → getD counts v 0 ≡ length (descendants tree v)
-
--- some node has this ancestor
-abbrev pub Named : ℕ → List ℕ → Type 0
-Named ρ tree = (k : ℕ) × (1 ≤ k) × (k ≤ length tree) × (ancestor tree k ≡ ρ)

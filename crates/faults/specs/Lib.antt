@@ -1,4 +1,4 @@
--- The faults of a tree table, in the words of document 01, and what the searches for them find.
+-- The faults of a tree table beside the root's, in the words of document 01, and what the searches for them find.
 -- Assumes nothing.
 
 -- a definition for each sentence

@@ -1,44 +1,11 @@
-// The faults of a tree table that its entries show one by one: refusals 3, 4 and 5, each with the search for its place.
+// The faults of a tree table beside the root's, that its entries show one by one: refusals 4 and 5, each with the search for its place.
 use refusals::Found;
 use refusals::wide;
-ghost use mathlib.Core.Path.{_≡_};
-ghost use Prim.Native.Nat.{ℕ, _+_, _≤_, _<_};
-ghost use lib.ListN.{length, getD};
-ghost use Rattle.parsimony.specs.Table.{ancestor};
+ghost use Prim.Native.Nat.{ℕ, _≤_};
+ghost use lib.ListN.{length};
 ghost use Rattle.refusals.specs.Search.{Finds, Tells};
 ghost use Rattle.faults.specs.Faults.{StrayEntry, WrongCount};
-ghost use Rattle.faults.specs.Finding.{FindsRoot, Strays, Wrong, InTable, Cleared, Counted, Named};
-
-// Where the root is: at a taxon, or the lowest 0 entry that is interior or follows another 0, or nowhere.
-pub enum Root {
-    At(usize),
-    Stray(usize),
-    Missing,
-}
-
-// The root of a table.
-pub fn find_root(n: usize, tree: &[u16]) -> Root
-    ensures { λ r. ⌜ FindsRoot n (now (tree .entry)) r ⌝ }
-{
-    let mut root: usize = 0;
-    let mut k: usize = 0;
-    while k < tree.len() {
-        if tree[k] == 0 {
-            if root != 0 {
-                return Root::Stray(k + 1);
-            }
-            if n <= k {
-                return Root::Stray(k + 1);
-            }
-            root = k + 1;
-        }
-        k += 1;
-    }
-    if root == 0 {
-        return Root::Missing;
-    }
-    Root::At(root)
-}
+ghost use Rattle.faults.specs.Finding.{Strays, Wrong, InTable, Cleared, Counted};
 
 // Whether an entry is above the nodes, or names a taxon that is not the root.
 fn strays(n: usize, root: usize, nodes: usize, entry: usize) -> bool
@@ -122,16 +89,4 @@ pub fn wrong_count(n: usize, root: usize, tree: &[u16]) -> Found
         k += 1;
     }
     Found::Nowhere
-}
-
-// The lowest descendant of the root, which has one.
-pub fn descendant_of(root: usize, tree: &[u16]) -> usize
-    requires { ⌜ Named root (now tree) ⌝ }
-    ensures { λ r. ⌜ (1 ≤ r) × (r ≤ length (now (tree .entry))) × (ancestor (now (tree .entry)) r ≡ root) ⌝ }
-{
-    let mut k: usize = 0;
-    while wide(tree[k]) != root {
-        k += 1;
-    }
-    k + 1
 }

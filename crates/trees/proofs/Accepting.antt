@@ -14,8 +14,9 @@ use Rattle.parsimony.proofs.Sums.{All, often, same-self, same-equal, same-small
 use Rattle.parsimony.proofs.Tables.Descendants.{past-table, Descends, each-descends, often-descendants}
 use Rattle.refusals.specs.Search.{Lowest, Never}
 use Rattle.refusals.specs.Checks.{Refuses}
-use Rattle.faults.specs.Faults.{IsRoot, StrayEntry, WrongCount, Lost}
-use Rattle.faults.specs.Finding.{InTable, Named}
+use Rattle.roots.specs.Roots.{IsRoot, Named}
+use Rattle.faults.specs.Faults.{StrayEntry, WrongCount, Lost}
+use Rattle.faults.specs.Finding.{InTable}
 use Rattle.climbs.specs.Climbs.{Climbable, Reaches}
 use Rattle.trees.specs.Answers.{Sized, treeFaults}
 use Rattle.trees.proofs.Unique.{clear-zeros, clear-rooted}

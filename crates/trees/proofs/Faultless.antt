@@ -14,7 +14,8 @@ use Rattle.parsimony.proofs.Tables.Trees.{out}
 use Rattle.refusals.specs.Search.{Never}
 use Rattle.refusals.specs.Checks.{Passes}
 use Rattle.refusals.proofs.Laws.{never-lowest}
-use Rattle.faults.specs.Faults.{IsRoot, StrayZero, NoZero, StrayEntry, WrongCount, Lost}
+use Rattle.roots.specs.Roots.{IsRoot, StrayZero, NoZero}
+use Rattle.faults.specs.Faults.{StrayEntry, WrongCount, Lost}
 use Rattle.climbs.specs.Climbs.{Reaches}
 use Rattle.trees.specs.Answers.{Sized, treeFaults}
 use Rattle.trees.proofs.Accepting.{within, named, accepted}

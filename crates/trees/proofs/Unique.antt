@@ -15,7 +15,8 @@ use Rattle.refusals.specs.Search.{Lowest, Never}
 use Rattle.refusals.specs.Checks.{at, Clear, Refuses, Passes}
 use Rattle.refusals.proofs.Laws.{lowest-one, lowest-never}
 use Rattle.refusals.proofs.Order.{Sure, AllSure, sure-at, one-refusal, not-refused, clear-at, clear-slice}
-use Rattle.faults.specs.Faults.{IsRoot, StrayZero, NoZero, StrayEntry, WrongCount, Lost}
+use Rattle.roots.specs.Roots.{IsRoot, StrayZero, NoZero}
+use Rattle.faults.specs.Faults.{StrayEntry, WrongCount, Lost}
 use Rattle.trees.specs.declared.TreeAnswer.{TreeAnswer}
 use Rattle.trees.specs.declared.TreeAnswer.the-variants.{Accepted, Refused}
 use Rattle.trees.specs.Answers.{Sized, TaxaOutside, zeros, rooted, treeFaults, treeChecks, Checks, Answers}

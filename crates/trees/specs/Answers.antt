@@ -8,7 +8,8 @@ use lib.ListN.{length}
 use Rattle.parsimony.specs.Table as table
 use Rattle.refusals.specs.Search.{Lowest}
 use Rattle.refusals.specs.Checks.{Check, at, Refuses, Slice, slices}
-use Rattle.faults.specs.Faults.{IsRoot, StrayZero, NoZero, StrayEntry, WrongCount, Lost}
+use Rattle.roots.specs.Roots.{IsRoot, StrayZero, NoZero}
+use Rattle.faults.specs.Faults.{StrayEntry, WrongCount, Lost}
 use Rattle.trees.specs.declared.TreeAnswer.{TreeAnswer}
 use Rattle.trees.specs.declared.TreeAnswer.the-variants.{Accepted, Refused}
 

@@ -3,7 +3,7 @@ use refusals::Found;
 use refusals::Refusal;
 ghost use mathlib.Core.Path.{_≡_};
 ghost use Prim.Native.Nat.{ℕ, _≤_};
-ghost use Rattle.faults.specs.Faults.{IsRoot};
+ghost use Rattle.roots.specs.Roots.{IsRoot};
 ghost use Rattle.trees.specs.Answers.{Sized, Checks, Answers};
 
 // What a tree table is: accepted, with its root and the root's descendant, or refused.
@@ -27,11 +27,11 @@ pub fn check_tree(n: usize, tree: &[u16]) -> TreeAnswer
     requires { ⌜ Sized n (now tree) ⌝ }
     ensures { λ r. ⌜ Checks n (now (tree .entry)) r ⌝ }
 {
-    let root = faults::find_root(n, tree);
+    let root = roots::find_root(n, tree);
     match root {
-        faults::Root::Missing => refuse(3, 0),
-        faults::Root::Stray(place) => refuse(3, place),
-        faults::Root::At(root) => check_below(n, root, tree),
+        roots::Root::Missing => refuse(3, 0),
+        roots::Root::Stray(place) => refuse(3, place),
+        roots::Root::At(root) => check_below(n, root, tree),
     }
 }
 
@@ -52,7 +52,7 @@ fn check_below(n: usize, root: usize, tree: &[u16]) -> TreeAnswer
     if let Found::At(place) = lost {
         return refuse(6, place);
     }
-    let descendant = faults::descendant_of(root, tree);
+    let descendant = roots::descendant_of(root, tree);
     TreeAnswer::Accepted(root as u16, descendant as u16)
 }
 

@@ -6,8 +6,7 @@ use mathlib.Core.Path.{_≡_, refl, sym, subst}
 use mathlib.Core.Logic.{inl, inr}
 use lib.ListN.{length}
 use Rattle.refusals.specs.Search.{Lowest}
-use Rattle.faults.specs.Faults.{StrayZero}
-use Rattle.faults.specs.Finding.{FindsRoot}
+use Rattle.roots.specs.Roots.{StrayZero, FindsRoot}
 use Rattle.trees.specs.Answers.{Checks}
 use Rattle.trees.proofs.check_tree.Statement.{statement}
 use Rattle.trees.proofs.check_tree.Tie as tie

@@ -1,4 +1,4 @@
--- The search for the root, entry by entry: at most one 0 so far, and it is a taxon's.
+-- The search for the root, entry by entry: at most one 0 so far, and it is a taxon's. The search for its descendant: not met so far.
 -- Assumes nothing.
 use mathlib.Core.Path.{_≡_, refl, sym, _∙_, ap}
 use mathlib.Core.Logic.{_≢_, _⊎_, inl, inr, ⊎-elim}
@@ -11,7 +11,7 @@ use lib.ListN.{length, getD}
 use Rattle.parsimony.specs.Table.{ancestor}
 use Rattle.parsimony.proofs.Tables.Descendants.{entry-at}
 use Rattle.refusals.specs.Search.{Lowest}
-use Rattle.faults.specs.Faults.{IsRoot, StrayZero, NoZero}
+use Rattle.roots.specs.Roots.{IsRoot, StrayZero, NoZero, Named}
 
 module _ (n : ℕ) (tree : List ℕ) where
   -- of the first k entries none but that of `root` is 0; `root` is 0 if none is
@@ -92,3 +92,32 @@ module _ (n : ℕ) (tree : List ℕ) where
       some : Dec (1 ≤ root) → 1 ≤ root
       some (yes p) = p
       some (no p) = let z : root ≡ 0 = omega arith in absurd (r z)
+
+-- ---- the lowest node that names the root
+
+module _ (ρ : ℕ) (tree : List ℕ) where
+  -- none of the first k entries is ρ, and k is a place of the table
+  pub record Looking (k : ℕ) : Type 0 where
+    pub inside : k < length tree
+    pub not-yet : (j : ℕ) → 1 ≤ j → j ≤ k → ancestor tree j ≢ ρ
+
+  pub looking-none : Named ρ tree → Looking 0
+  looking-none (d, p, q, e) = record { inside = omega arith; not-yet = λ j a b. omega arith }
+
+  pub looking-more : (k : ℕ) → Named ρ tree → Looking k → getD tree k 0 ≢ ρ → Looking (k + 1)
+  looking-more k (d, p, q, e) h r =
+      record {
+        inside = inside (decLe d (k + 1));
+        not-yet = later;
+      }
+    where
+      later : (j : ℕ) → 1 ≤ j → j ≤ k + 1 → ancestor tree j ≢ ρ
+      later j a b = go (ℕ-discrete j (k + 1))
+        where
+          go : Dec (j ≡ k + 1) → ancestor tree j ≢ ρ
+          go (yes s) t = r (sym (entry-at tree k) ∙ ap (ancestor tree) (sym s) ∙ t)
+          go (no s) t = h .not-yet j a (omega arith) t
+
+      inside : Dec (d ≤ k + 1) → k + 1 < length tree
+      inside (yes s) = absurd (later d p s e)
+      inside (no s) = omega arith

@@ -5,9 +5,9 @@ use borrow.Author.Needs.{needs}
 use mathlib.Core.Logic.{⊎-elim}
 use Prim.Native.Nat.{_-_, _≤_}
 use lib.ListN.{length}
-use Rattle.faults.proofs.Rooting.{SoFar, so-far-none, so-far-passed, so-far-taken, stray-second, stray-inner, none-found, one-found}
-use Rattle.faults.proofs.find_root.Statement.{statement}
-use Rattle.faults.proofs.find_root.Tie as tie
+use Rattle.roots.proofs.Rooting.{SoFar, so-far-none, so-far-passed, so-far-taken, stray-second, stray-inner, none-found, one-found}
+use Rattle.roots.proofs.find_root.Statement.{statement}
+use Rattle.roots.proofs.find_root.Tie as tie
 
 abbrev Inv-loop : tie.InvT-loop
 Inv-loop n tree root₀ k₀ root k = (k ≤ length tree) × SoFar n tree k root

@@ -6,9 +6,9 @@ use mathlib.Core.Path.{_∙_, sym}
 use Prim.Native.Nat.{_-_}
 use lib.ListN.{length}
 use Rattle.parsimony.proofs.Tables.Descendants.{entry-at}
-use Rattle.faults.proofs.Counting.{Looking, looking-none, looking-more}
-use Rattle.faults.proofs.descendant_of.Statement.{statement}
-use Rattle.faults.proofs.descendant_of.Tie as tie
+use Rattle.roots.proofs.Rooting.{Looking, looking-none, looking-more}
+use Rattle.roots.proofs.descendant_of.Statement.{statement}
+use Rattle.roots.proofs.descendant_of.Tie as tie
 
 abbrev Inv-loop : tie.InvT-loop
 Inv-loop root tree k₀ k = Looking root tree k
