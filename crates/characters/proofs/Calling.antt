@@ -13,12 +13,13 @@ use Rattle.refusals.specs.Checks.{Refuses, Passes, slices, Slice}
 use Rattle.cells.specs.Above.{AboveAt}
 use Rattle.cells.proofs.Reading.{none-above, states-small}
 use Rattle.totals.specs.Totals.{Small, Given}
-use Rattle.checks.specs.declared.Lent.{Lent}
-use Rattle.checks.specs.declared.Lent.the-variants.{Exact}
+use Rattle.limits.specs.declared.Lent.{Lent}
+use Rattle.limits.specs.declared.Lent.the-variants.{Exact}
+use Rattle.limits.specs.Limits.{Outside, lentSlices, Told, InLimits}
+use Rattle.limits.proofs.Lending.{exact-clear}
 use Rattle.checks.specs.declared.Admission.{Admission}
 use Rattle.checks.specs.declared.Admission.the-variants.{Admitted, Refused}
-use Rattle.checks.specs.Calls.{Outside, lentSlices, characterChecks, cellChecks, matrixChecks, Told, InLimits, CellsPass, AdmitsCharacter, AdmitsMatrix}
-use Rattle.checks.proofs.Lending.{exact-clear}
+use Rattle.checks.specs.Calls.{characterChecks, cellChecks, matrixChecks, CellsPass, AdmitsCharacter, AdmitsMatrix}
 use Rattle.checks.proofs.Orders.{admissible, rest-passes, character-passes, matrix-passes, character-inside, matrix-inside, sized}
 use Rattle.choices.specs.declared.Resolve.{Resolve}
 use Rattle.scores.specs.declared.Scores.{Scores}

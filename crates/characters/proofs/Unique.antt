@@ -8,8 +8,8 @@ use Rattle.parsimony.specs.Matrix.{stateOf}
 use Rattle.refusals.proofs.Order.{one-refusal, not-refused}
 use Rattle.trees.proofs.Unique.{one-shape}
 use Rattle.choices.specs.declared.Resolve.{Resolve}
+use Rattle.limits.proofs.Lending.{exact-clear}
 use Rattle.checks.specs.Calls.{characterChecks, matrixChecks}
-use Rattle.checks.proofs.Lending.{exact-clear}
 use Rattle.checks.proofs.Orders.{sure-character, sure-matrix}
 use Rattle.scores.specs.declared.Scores.{Scores}
 use Rattle.scores.specs.Scores.{TreeScores, Results, CharacterMeans}

@@ -8,7 +8,8 @@ use Rattle.parsimony.specs.Table.{Accepted}
 use Rattle.parsimony.specs.Matrix.{stateOf}
 use Rattle.refusals.specs.Checks.{Refuses, Passes, Slice}
 use Rattle.choices.specs.declared.Resolve.{Resolve}
-use Rattle.checks.specs.Calls.{nodeSlice, characterChecks, matrixChecks}
+use Rattle.limits.specs.Limits.{nodeSlice}
+use Rattle.checks.specs.Calls.{characterChecks, matrixChecks}
 use Rattle.scores.specs.declared.Scores.{Scores}
 use Rattle.scores.specs.Scores.{TreeScores, Results, CharacterMeans}
 use Rattle.characters.specs.declared.Answer.{Answer}

@@ -1,12 +1,12 @@
 // One character afresh, and all characters afresh.
 use checks::Admission;
-use checks::Lent;
 use choices::Resolve;
+use limits::Lent;
 use refusals::Refusal;
 use scores::Scores;
 ghost use Prim.Native.Nat.{_≤_};
 ghost use Rattle.characters.specs.Afresh.{six, OneAnswers, AllAnswers};
-ghost use Rattle.checks.specs.Calls.{Told};
+ghost use Rattle.limits.specs.Limits.{Told};
 
 // The scores, or a refusal.
 pub enum Answer {
@@ -29,12 +29,12 @@ pub fn lend_results(
     requires { ⌜ 3 ≤ n ⌝ }
     ensures { λ r. ⌜ Told 3 (six n third fourth fifth sixth seventh eighth) r ⌝ }
 {
-    let from8 = checks::lend(8, eighth, n - 2, Lent::Exact);
-    let from7 = checks::lend(7, seventh, n - 2, from8);
-    let from6 = checks::lend(6, sixth, n - 2, from7);
-    let from5 = checks::lend(5, fifth, n - 2, from6);
-    let from4 = checks::lend(4, fourth, n - 2, from5);
-    checks::lend(3, third, n - 2, from4)
+    let from8 = limits::lend(8, eighth, n - 2, Lent::Exact);
+    let from7 = limits::lend(7, seventh, n - 2, from8);
+    let from6 = limits::lend(6, sixth, n - 2, from7);
+    let from5 = limits::lend(5, fifth, n - 2, from6);
+    let from4 = limits::lend(4, fourth, n - 2, from5);
+    limits::lend(3, third, n - 2, from4)
 }
 
 // One character afresh. The first-pass ranges and subtree lengths, the final ranges and the chosen states go into slices of n - 2 entries.
@@ -71,7 +71,7 @@ pub fn one_character(
           states = now (states .exit);
         }) r ⌝ }
 {
-    if checks::outside(n, c) {
+    if limits::outside(n, c) {
         return Answer::Refused(Refusal {
             number: 1,
             place: 0,
@@ -86,8 +86,8 @@ pub fn one_character(
         final_highs.len(),
         states.len(),
     );
-    let from2 = checks::lend(2, matrix.len(), n * c, results);
-    let from1 = checks::lend(1, tree.len(), 2 * n - 2, from2);
+    let from2 = limits::lend(2, matrix.len(), n * c, results);
+    let from1 = limits::lend(1, tree.len(), 2 * n - 2, from2);
     let admission = checks::admit_character(n, c, character, tree, matrix, from1);
     match admission {
         Admission::Refused(refusal) => Answer::Refused(refusal),
@@ -116,14 +116,14 @@ pub fn one_character(
 pub fn all_characters(n: usize, c: usize, tree: &[u16], matrix: &[u16]) -> Answer
     ensures { λ r. ⌜ AllAnswers n c (now (tree .entry)) (now (matrix .entry)) r ⌝ }
 {
-    if checks::outside(n, c) {
+    if limits::outside(n, c) {
         return Answer::Refused(Refusal {
             number: 1,
             place: 0,
         });
     }
-    let from2 = checks::lend(2, matrix.len(), n * c, Lent::Exact);
-    let from1 = checks::lend(1, tree.len(), 2 * n - 2, from2);
+    let from2 = limits::lend(2, matrix.len(), n * c, Lent::Exact);
+    let from1 = limits::lend(1, tree.len(), 2 * n - 2, from2);
     let admission = checks::admit_matrix(n, c, tree, matrix, from1);
     match admission {
         Admission::Refused(refusal) => Answer::Refused(refusal),

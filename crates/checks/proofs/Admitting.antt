@@ -19,22 +19,12 @@ use Rattle.trees.specs.declared.TreeAnswer.{TreeAnswer}
 use Rattle.trees.specs.declared.TreeAnswer.the-variants as tree-answer
 use Rattle.trees.specs.Answers.{treeFaults, Checks}
 use Rattle.trees.proofs.Unique.{accepted-passes}
-use Rattle.checks.specs.declared.Lent.{Lent}
-use Rattle.checks.specs.declared.Lent.the-variants.{Exact, Wrong}
+use Rattle.limits.specs.declared.Lent.{Lent}
+use Rattle.limits.specs.declared.Lent.the-variants.{Exact, Wrong}
+use Rattle.limits.specs.Limits.{Told}
 use Rattle.checks.specs.declared.Admission.{Admission}
 use Rattle.checks.specs.declared.Admission.the-variants.{Admitted, Refused}
-use Rattle.checks.specs.Calls.{
-  NoCharacter,
-  characterCell,
-  cellChecks,
-  allChecks,
-  Told,
-  CellsPass,
-  AdmitsCells,
-  AdmitsAll,
-  AdmitsCharacter,
-  AdmitsMatrix,
-}
+use Rattle.checks.specs.Calls.{NoCharacter, characterCell, cellChecks, allChecks, CellsPass, AdmitsCells, AdmitsAll, AdmitsCharacter, AdmitsMatrix}
 
 abbrev pub refusal : (number place : ℕ) → Refusal
 refusal number place = record { number = number; place = place }

@@ -1,5 +1,4 @@
 -- What the checks tell, one after the other.
 -- Assumes nothing.
-pub mod Lending
 pub mod Admitting
 pub mod Orders

@@ -15,25 +15,13 @@ use Rattle.refusals.proofs.Order.{Sure, AllSure, sure-at, sure-lowest, sure-app
 use Rattle.cells.specs.Above.{AboveAt, AboveIn}
 use Rattle.trees.specs.Answers.{Sized, treeFaults}
 use Rattle.trees.proofs.Unique.{sure-faults, accepted-passes}
-use Rattle.checks.specs.declared.Lent.{Lent}
-use Rattle.checks.specs.declared.Lent.the-variants.{Exact, Wrong}
+use Rattle.limits.specs.declared.Lent.{Lent}
+use Rattle.limits.specs.declared.Lent.the-variants.{Exact, Wrong}
+use Rattle.limits.specs.Limits.{Outside, lentSlices, Told, InLimits}
+use Rattle.limits.proofs.Lending.{exact-clear, not-outside}
 use Rattle.checks.specs.declared.Admission.{Admission}
 use Rattle.checks.specs.declared.Admission.the-variants.{Admitted, Refused}
-use Rattle.checks.specs.Calls.{
-  Outside,
-  NoCharacter,
-  characterCell,
-  cellChecks,
-  allChecks,
-  lentSlices,
-  characterChecks,
-  matrixChecks,
-  Told,
-  InLimits,
-  Admissible,
-  CellsPass,
-}
-use Rattle.checks.proofs.Lending.{exact-clear, not-outside}
+use Rattle.checks.specs.Calls.{NoCharacter, characterCell, cellChecks, allChecks, characterChecks, matrixChecks, Admissible, CellsPass}
 use Rattle.checks.proofs.Admitting.{refusal, clear-character, clear-cell}
 
 -- ---- each check has one place

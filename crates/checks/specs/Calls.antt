@@ -3,25 +3,22 @@
 use mathlib.Core.Path.{_≡_}
 use mathlib.Core.Logic.{_⊎_}
 use mathlib.Core.List.{List, [], _∷_, _++_}
-use Prim.Native.Nat.{ℕ, suc, _+_, _-_, _*_, _≤_, _<_}
+use Prim.Native.Nat.{ℕ, _-_, _*_, _≤_, _<_}
 use lib.ListN.{length}
 use Rattle.parsimony.specs.Table as table
 use Rattle.parsimony.specs.Matrix.{cellNumber}
 use Rattle.refusals.specs.declared.Refusal.{Refusal}
 use Rattle.refusals.specs.Search.{Lowest, Never}
-use Rattle.refusals.specs.Checks.{Check, at, lowest, Refuses, Passes, Slice, slices}
+use Rattle.refusals.specs.Checks.{Check, at, lowest, Refuses, Slice, slices}
 use Rattle.cells.specs.Above.{AboveAt, AboveIn}
-use Rattle.trees.specs.Answers.{treeSlice, treeFaults}
-use Rattle.checks.specs.declared.Lent.{Lent}
-use Rattle.checks.specs.declared.Lent.the-variants.{Exact, Wrong}
+use Rattle.trees.specs.Answers.{treeFaults}
+use Rattle.limits.specs.declared.Lent.{Lent}
+use Rattle.limits.specs.declared.Lent.the-variants.{Exact}
+use Rattle.limits.specs.Limits.{Outside, InLimits, lentSlices, Told}
 use Rattle.checks.specs.declared.Admission.{Admission}
 use Rattle.checks.specs.declared.Admission.the-variants.{Admitted, Refused}
 
 -- ---- the checks
-
--- 1: n or c is outside its limits
-abbrev pub Outside : (n c : ℕ) → Type 0
-Outside n c = (n < 3) ⊎ ((256 < n) ⊎ ((c < 1) ⊎ (512 < c)))
 
 -- 8: there is no such character
 abbrev pub NoCharacter : (c j : ℕ) → Type 0
@@ -39,18 +36,6 @@ cellChecks n c j matrix = at 8 0 (NoCharacter c j) ∷ characterCell n c j matri
 abbrev pub allChecks : (n c : ℕ) (matrix : List ℕ) → List {1} Check
 allChecks n c matrix = lowest 7 (AboveAt matrix) (n * c) ∷ []
 
--- the matrix, as a lent slice
-abbrev pub matrixSlice : (n c : ℕ) (matrix : List ℕ) → Slice
-matrixSlice n c matrix = record { has = length matrix; asked = n * c }
-
--- a slice with an entry for each interior node
-abbrev pub nodeSlice : (n has : ℕ) → Slice
-nodeSlice n has = record { has = has; asked = n - 2 }
-
--- the tree and the matrix, and the rest
-abbrev pub lentSlices : (n c : ℕ) (tree matrix : List ℕ) → List Slice → List Slice
-lentSlices n c tree matrix rest = treeSlice n tree ∷ matrixSlice n c matrix ∷ rest
-
 -- A call about one character: 1, 2, 3 to 6, 8, and 7 in the character's cells.
 abbrev pub characterChecks : (n c j : ℕ) (tree matrix : List ℕ) → List Slice → List {1} Check
 characterChecks n c j tree matrix rest =
@@ -61,27 +46,9 @@ abbrev pub matrixChecks : (n c : ℕ) (tree matrix : List ℕ) → List Slice �
 matrixChecks n c tree matrix rest =
     at 1 0 (Outside n c) ∷ slices 1 (lentSlices n c tree matrix rest) ++ (treeFaults n tree ++ allChecks n c matrix)
 
--- ---- what is told of the slices
+-- ---- behind the sizes
 
--- of the slices from the number i on
-abbrev pub Told : ℕ → List Slice → Lent → Type 0
-Told i ss Exact = Passes (slices i ss)
-Told i ss (Wrong p) = Refuses (slices i ss) (record { number = 2; place = p })
-
--- of one more, before the others
-abbrev pub LentTo : (i has asked : ℕ) (others told : Lent) → Type 0
-LentTo i has asked others told = (ss : List Slice) → Told (suc i) ss others → Told i (record { has = has; asked = asked } ∷ ss) told
-
--- ---- the rest of the checks
-
--- n and c are in their limits
-pub record InLimits (n c : ℕ) : Type 0 where
-  pub least : 3 ≤ n
-  pub most : n ≤ 256
-  pub some : 1 ≤ c
-  pub few : c ≤ 512
-
--- and, unless a slice is wrong, the tree and the matrix are of the right length
+-- n and c are in their limits, and, unless a slice is wrong, the tree and the matrix are of the right length
 pub record Admissible (n c : ℕ) (tree matrix : List ℕ) (told : Lent) : Type 0 where
   pub limits : InLimits n c
   pub exact : told ≡ Exact → (length tree ≡ 2 * n - 2) × (length matrix ≡ n * c)

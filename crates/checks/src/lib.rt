@@ -1,54 +1,19 @@
-// The checks that several calls share, in the order of document 01: sizes (1), lengths of slices (2), the tree (3 to 6), the character (8) and its
-// cells, or all cells (7).
+// The checks that several calls share, once the sizes are in their limits, in the order of document 01: what is told of the slices (2), the tree
+// (3 to 6), the character (8) and its cells, or all cells (7).
+use limits::Lent;
 use refusals::Found;
 use refusals::Refusal;
 use trees::TreeAnswer;
 ghost use mathlib.Core.Path.{_≡_};
 ghost use Prim.Native.Nat.{ℕ, _*_, _≤_, _<_};
 ghost use lib.ListN.{length};
-ghost use Rattle.refusals.specs.Search.{Tells};
-ghost use Rattle.checks.specs.Calls.{Outside, LentTo, Admissible, AdmitsCharacter, AdmitsMatrix, InLimits, AdmitsCells, AdmitsAll};
-
-// Whether each of the slices lent to a call has the length that is asked, or which is the first that has not.
-pub enum Lent {
-    Exact,
-    Wrong(u32),
-}
+ghost use Rattle.limits.specs.Limits.{InLimits};
+ghost use Rattle.checks.specs.Calls.{Admissible, AdmitsCharacter, AdmitsMatrix, AdmitsCells, AdmitsAll};
 
 // Whether a call goes on, with the root of the tree and the root's descendant, or is refused.
 pub enum Admission {
     Admitted(u16, u16),
     Refused(Refusal),
-}
-
-// Are there too few or too many taxa or characters?
-pub fn outside(n: usize, c: usize) -> bool
-    ensures { λ r. ⌜ Tells (Outside n c) r ⌝ }
-{
-    if n < 3 {
-        return true;
-    }
-    if 256 < n {
-        return true;
-    }
-    if c < 1 {
-        return true;
-    }
-    if 512 < c {
-        return true;
-    }
-    false
-}
-
-// One slice more, before the others: its number, the length it has, and the length that is asked.
-pub fn lend(number: u32, has: usize, asked: usize, others: Lent) -> Lent
-    ensures { λ r. ⌜ LentTo number has asked others r ⌝ }
-{
-    if has != asked {
-        Lent::Wrong(number)
-    } else {
-        others
-    }
 }
 
 fn refuse(number: u32, place: u32) -> Admission

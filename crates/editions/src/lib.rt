@@ -3,10 +3,10 @@
 use answers::code;
 use answers::give;
 use answers::resolve_of;
-use checks::Lent;
 use kept_answers::give_built;
 use kept_answers::give_count;
 use kept_answers::give_length;
+use limits::Lent;
 use refusals::Refusal;
 use sheet_answers::give_report;
 use sheet_answers::give_sheet;
@@ -38,14 +38,14 @@ fn refuse_tree(n: usize, c: usize, tree: usize, matrix: usize, result: usize) ->
     requires { ⌜ result ≢ 7 ⌝ }
     ensures { λ r. ⌜ Refuses (sizeChecks n c (lent n c tree matrix (sevenSlice result ∷ []))) r ⌝ }
 {
-    if checks::outside(n, c) {
+    if limits::outside(n, c) {
         return Refusal {
             number: 1,
             place: 0,
         };
     }
-    let from2 = checks::lend(2, matrix, n * c, Lent::Exact);
-    let from1 = checks::lend(1, tree, 2 * n - 2, from2);
+    let from2 = limits::lend(2, matrix, n * c, Lent::Exact);
+    let from1 = limits::lend(1, tree, 2 * n - 2, from2);
     refuse_last(from1, 3)
 }
 
@@ -66,15 +66,15 @@ fn refuse_character(
     ensures { λ r. ⌜ Refuses (sizeChecks n c (lent n c tree matrix
         (six n third fourth fifth sixth seventh eighth ++ (sevenSlice result ∷ [])))) r ⌝ }
 {
-    if checks::outside(n, c) {
+    if limits::outside(n, c) {
         return Refusal {
             number: 1,
             place: 0,
         };
     }
     let from3 = characters::lend_results(n, third, fourth, fifth, sixth, seventh, eighth);
-    let from2 = checks::lend(2, matrix, n * c, from3);
-    let from1 = checks::lend(1, tree, 2 * n - 2, from2);
+    let from2 = limits::lend(2, matrix, n * c, from3);
+    let from1 = limits::lend(1, tree, 2 * n - 2, from2);
     refuse_last(from1, 9)
 }
 

@@ -19,9 +19,10 @@ use Rattle.refusals.specs.Checks.{Check, at, Clear, Refuses, Passes}
 use Rattle.refusals.proofs.Order.{not-refused, clear-at}
 use Rattle.cells.specs.Above.{AboveAt}
 use Rattle.cells.proofs.Reading.{none-above}
-use Rattle.checks.specs.declared.Lent.the-variants.{Exact}
-use Rattle.checks.specs.Calls.{Outside, NoCharacter, characterCell, lentSlices}
-use Rattle.checks.proofs.Lending.{not-outside}
+use Rattle.limits.specs.declared.Lent.the-variants.{Exact}
+use Rattle.limits.specs.Limits.{Outside, lentSlices}
+use Rattle.limits.proofs.Lending.{not-outside}
+use Rattle.checks.specs.Calls.{NoCharacter, characterCell}
 use Rattle.checks.proofs.Admitting.{refusal, by-cells, clear-cell}
 use Rattle.checks.proofs.Orders.{passes-call}
 use Rattle.tables.specs.Tables.{stretch}

@@ -18,8 +18,9 @@ use Rattle.cells.specs.Above.{AboveIn}
 use Rattle.trees.specs.Answers.{treeFaults}
 use Rattle.trees.proofs.Faultless.{faultless}
 use Rattle.tables.specs.Tables.{stretch}
-use Rattle.checks.specs.Calls.{Outside, cellChecks, lentSlices, characterChecks, matrixChecks, InLimits, CellsPass}
-use Rattle.checks.proofs.Lending.{exact-clear, in-limits}
+use Rattle.limits.specs.Limits.{Outside, lentSlices, InLimits}
+use Rattle.limits.proofs.Lending.{exact-clear, in-limits}
+use Rattle.checks.specs.Calls.{cellChecks, characterChecks, matrixChecks, CellsPass}
 use Rattle.entries.specs.Entries.{BadIn, characterEntries, allEntries}
 use Rattle.histories.specs.Kept.{Table, tableSlices, lengthChecks, keptSlices, keptChecks}
 

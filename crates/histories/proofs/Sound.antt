@@ -17,8 +17,9 @@ use Rattle.refusals.proofs.Order.{clear-slice, clear-lowest}
 use Rattle.cells.specs.Above.{AboveAt, AboveIn}
 use Rattle.cells.proofs.Reading.{none-above, states-small}
 use Rattle.trees.specs.Answers.{Sized}
-use Rattle.checks.specs.declared.Lent.the-variants.{Exact}
-use Rattle.checks.specs.Calls.{lentSlices, allChecks, InLimits}
+use Rattle.limits.specs.declared.Lent.the-variants.{Exact}
+use Rattle.limits.specs.Limits.{lentSlices, InLimits}
+use Rattle.checks.specs.Calls.{allChecks}
 use Rattle.checks.proofs.Orders.{matrix-passes}
 use Rattle.tables.specs.Tables.{stretch, TableLong}
 use Rattle.entries.specs.Entries.{BadAt, BadBeside, allEntries, characterEntries, besideEntries}

@@ -22,8 +22,9 @@ use Rattle.refusals.specs.declared.Refusal.{Refusal}
 use Rattle.refusals.specs.Checks.{Clear, Passes, slices}
 use Rattle.refusals.proofs.Order.{not-refused, passes-append, clear-slice}
 use Rattle.cells.proofs.Reading.{none-above}
-use Rattle.checks.specs.declared.Lent.the-variants.{Exact}
-use Rattle.checks.specs.Calls.{NoCharacter, lentSlices, characterChecks, matrixChecks, cellChecks, allChecks}
+use Rattle.limits.specs.declared.Lent.the-variants.{Exact}
+use Rattle.limits.specs.Limits.{lentSlices}
+use Rattle.checks.specs.Calls.{NoCharacter, characterChecks, matrixChecks, cellChecks, allChecks}
 use Rattle.checks.proofs.Admitting.{refusal}
 use Rattle.checks.proofs.Orders.{character-passes}
 use Rattle.tables.specs.Tables.{stretch, TableLong}

@@ -13,8 +13,8 @@ use Rattle.parsimony.proofs.Uniqueness.{one-ordered-entry}
 use Rattle.refusals.proofs.Laws.{lowest-one, lowest-never}
 use Rattle.refusals.proofs.Order.{Sure, AllSure, sure-at, sure-lowest, sure-append, one-refusal, not-refused}
 use Rattle.trees.proofs.Unique.{one-shape}
+use Rattle.limits.proofs.Lending.{exact-clear}
 use Rattle.checks.specs.Calls.{characterChecks, matrixChecks, allChecks}
-use Rattle.checks.proofs.Lending.{exact-clear}
 use Rattle.checks.proofs.Orders.{sure-character, sure-matrix, sure-call, sure-cell}
 use Rattle.tables.specs.Tables.{stretch, TableLong}
 use Rattle.tables.proofs.Stretches.{stretch-in, stretch-long, same-stretches}

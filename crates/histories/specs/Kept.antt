@@ -9,7 +9,8 @@ use Rattle.parsimony.specs.Lists.{sum, from}
 use Rattle.parsimony.specs.Table.{between, Accepted}
 use Rattle.refusals.specs.Checks.{Check, at, Refuses, Passes, Slice, slices}
 use Rattle.trees.specs.Answers.{treeFaults}
-use Rattle.checks.specs.Calls.{Outside, NoCharacter, characterCell, nodeSlice, lentSlices, characterChecks, matrixChecks}
+use Rattle.limits.specs.Limits.{Outside, nodeSlice, lentSlices}
+use Rattle.checks.specs.Calls.{NoCharacter, characterCell, characterChecks, matrixChecks}
 use Rattle.tables.specs.Tables.{stretch, TableLong, TableMeans}
 use Rattle.entries.specs.Entries.{characterEntries, allEntries}
 use Rattle.descents.specs.Descents.{Finals}

@@ -17,21 +17,11 @@ use Rattle.refusals.specs.Checks.{Check, at, Clear, Refuses, Passes, Slice, sli
 use Rattle.refusals.proofs.Order.{clear-at, refuses-before, refuses-after, passes-append}
 use Rattle.trees.specs.Answers.{treeFaults}
 use Rattle.trees.proofs.Unique.{accepted-passes}
-use Rattle.checks.specs.declared.Lent.{Lent}
+use Rattle.limits.specs.declared.Lent.{Lent}
+use Rattle.limits.specs.Limits.{Outside, lentSlices, Told, InLimits}
+use Rattle.limits.proofs.Lending.{exact-clear, not-outside}
 use Rattle.checks.specs.declared.Admission.the-variants.{Admitted, Refused}
-use Rattle.checks.specs.Calls.{
-  Outside,
-  NoCharacter,
-  characterCell,
-  cellChecks,
-  lentSlices,
-  matrixChecks,
-  Told,
-  InLimits,
-  AdmitsCharacter,
-  AdmitsMatrix,
-}
-use Rattle.checks.proofs.Lending.{exact-clear, not-outside}
+use Rattle.checks.specs.Calls.{NoCharacter, characterCell, cellChecks, matrixChecks, AdmitsCharacter, AdmitsMatrix}
 use Rattle.checks.proofs.Admitting.{clear-cell}
 use Rattle.checks.proofs.Orders.{admissible, rest-passes, passes-call, matrix-passes, matrix-inside, sized}
 use Rattle.cells.proofs.Reading.{states-small}

@@ -4,8 +4,8 @@ use mathlib.Core.Path.{_≡_}
 use mathlib.Core.List.{List, _++_}
 use Prim.Native.Nat.{ℕ, _≤_}
 use Rattle.refusals.specs.Checks.{Slice}
-use Rattle.checks.specs.declared.Lent.{Lent}
-use Rattle.checks.specs.Calls.{Told}
+use Rattle.limits.specs.declared.Lent.{Lent}
+use Rattle.limits.specs.Limits.{Told}
 use Rattle.histories.specs.Kept.{three, NoTaxon}
 
 -- what is told of the table's slices and those behind them

@@ -1,8 +1,8 @@
 // The kept table: build it, correct a cell, and ask it for the tree's length.
 use checks::Admission;
-use checks::Lent;
 use corrections::Count;
 use histories::Built;
+use limits::Lent;
 use refusals::Refusal;
 use refusals::wide;
 use tallies::Length;
@@ -23,9 +23,9 @@ pub fn lend_table(
     ensures { λ r. ⌜ LendsTable n c third fourth fifth others r ⌝ }
 {
     let asked = (n - 2) * c;
-    let from5 = checks::lend(5, fifth, asked, others);
-    let from4 = checks::lend(4, fourth, asked, from5);
-    checks::lend(3, third, asked, from4)
+    let from5 = limits::lend(5, fifth, asked, others);
+    let from4 = limits::lend(4, fourth, asked, from5);
+    limits::lend(3, third, asked, from4)
 }
 
 // ---- build
@@ -44,15 +44,15 @@ pub fn build(
         (record { lows = now (lows .entry); highs = now (highs .entry); lengths = now (lengths .entry) })
         (record { lows = now (lows .exit); highs = now (highs .exit); lengths = now (lengths .exit) }) r ⌝ }
 {
-    if checks::outside(n, c) {
+    if limits::outside(n, c) {
         return Built::Refused(Refusal {
             number: 1,
             place: 0,
         });
     }
     let from3 = lend_table(n, c, lows.len(), highs.len(), lengths.len(), Lent::Exact);
-    let from2 = checks::lend(2, matrix.len(), n * c, from3);
-    let from1 = checks::lend(1, tree.len(), 2 * n - 2, from2);
+    let from2 = limits::lend(2, matrix.len(), n * c, from3);
+    let from1 = limits::lend(1, tree.len(), 2 * n - 2, from2);
     let admission = checks::admit_matrix(n, c, tree, matrix, from1);
     match admission {
         Admission::Refused(refusal) => Built::Refused(refusal),
@@ -108,15 +108,15 @@ pub fn correct(
         (now (matrix .exit))
         (record { lows = now (lows .exit); highs = now (highs .exit); lengths = now (lengths .exit) }) r ⌝ }
 {
-    if checks::outside(n, c) {
+    if limits::outside(n, c) {
         return Count::Refused(Refusal {
             number: 1,
             place: 0,
         });
     }
     let from3 = lend_table(n, c, lows.len(), highs.len(), lengths.len(), Lent::Exact);
-    let from2 = checks::lend(2, matrix.len(), n * c, from3);
-    let from1 = checks::lend(1, tree.len(), 2 * n - 2, from2);
+    let from2 = limits::lend(2, matrix.len(), n * c, from3);
+    let from1 = limits::lend(1, tree.len(), 2 * n - 2, from2);
     let looked = wanted(n, taxon, character);
     let admission = checks::admit_character(n, c, looked, tree, matrix, from1);
     match admission {
@@ -151,15 +151,15 @@ pub fn kept_length(
     ensures { λ r. ⌜ HasLengths n c (now (tree .entry)) (now (matrix .entry))
         (record { lows = now (lows .entry); highs = now (highs .entry); lengths = now (lengths .entry) }) r ⌝ }
 {
-    if checks::outside(n, c) {
+    if limits::outside(n, c) {
         return Length::Refused(Refusal {
             number: 1,
             place: 0,
         });
     }
     let from3 = lend_table(n, c, lows.len(), highs.len(), lengths.len(), Lent::Exact);
-    let from2 = checks::lend(2, matrix.len(), n * c, from3);
-    let from1 = checks::lend(1, tree.len(), 2 * n - 2, from2);
+    let from2 = limits::lend(2, matrix.len(), n * c, from3);
+    let from1 = limits::lend(1, tree.len(), 2 * n - 2, from2);
     let admission = checks::admit_matrix(n, c, tree, matrix, from1);
     match admission {
         Admission::Refused(refusal) => Length::Refused(refusal),

@@ -8,10 +8,11 @@ use lib.ListN.{length, take, drop}
 use Rattle.refusals.specs.declared.Refusal.{Refusal}
 use Rattle.refusals.specs.Checks.{Check, Refuses, Passes, slices}
 use Rattle.refusals.proofs.Order.{refuses-before, refuses-after, passes-append}
-use Rattle.checks.specs.declared.Lent.{Lent}
+use Rattle.limits.specs.declared.Lent.{Lent}
+use Rattle.limits.specs.Limits.{nodeSlice, lentSlices, Told, InLimits}
+use Rattle.limits.proofs.Lending.{exact-clear}
 use Rattle.checks.specs.declared.Admission.the-variants.{Admitted, Refused}
-use Rattle.checks.specs.Calls.{nodeSlice, lentSlices, characterChecks, Told, InLimits, AdmitsCharacter}
-use Rattle.checks.proofs.Lending.{exact-clear}
+use Rattle.checks.specs.Calls.{characterChecks, AdmitsCharacter}
 use Rattle.checks.proofs.Orders.{admissible, rest-passes, character-passes, character-inside, sized}
 use Rattle.cells.proofs.Reading.{states-small}
 use Rattle.tables.specs.Tables.{stretch, TableLong}

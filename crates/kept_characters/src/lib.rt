@@ -1,6 +1,6 @@
 // The kept table is asked for one character.
 use checks::Admission;
-use checks::Lent;
+use limits::Lent;
 use refusals::Refusal;
 use tallies::Length;
 ghost use Prim.Native.Nat.{ℕ};
@@ -24,17 +24,17 @@ pub fn kept_character(
         (record { lows = now (lows .entry); highs = now (highs .entry); lengths = now (lengths .entry) })
         (now («final_lows» .entry)) (now («final_highs» .entry)) (now («final_lows» .exit)) (now («final_highs» .exit)) r ⌝ }
 {
-    if checks::outside(n, c) {
+    if limits::outside(n, c) {
         return Length::Refused(Refusal {
             number: 1,
             place: 0,
         });
     }
-    let from7 = checks::lend(7, final_highs.len(), n - 2, Lent::Exact);
-    let from6 = checks::lend(6, final_lows.len(), n - 2, from7);
+    let from7 = limits::lend(7, final_highs.len(), n - 2, Lent::Exact);
+    let from6 = limits::lend(6, final_lows.len(), n - 2, from7);
     let from3 = kept::lend_table(n, c, lows.len(), highs.len(), lengths.len(), from6);
-    let from2 = checks::lend(2, matrix.len(), n * c, from3);
-    let from1 = checks::lend(1, tree.len(), 2 * n - 2, from2);
+    let from2 = limits::lend(2, matrix.len(), n * c, from3);
+    let from1 = limits::lend(1, tree.len(), 2 * n - 2, from2);
     let admission = checks::admit_character(n, c, character, tree, matrix, from1);
     match admission {
         Admission::Refused(refusal) => Length::Refused(refusal),

@@ -11,9 +11,10 @@ use Rattle.refusals.specs.Checks.{Check, Refuses, Passes, Slice, slices}
 use Rattle.refusals.proofs.Order.{refuses-before, clear-slice}
 use Rattle.trees.specs.Answers.{treeFaults}
 use Rattle.choices.specs.declared.Resolve.{Resolve}
-use Rattle.checks.specs.declared.Lent.{Lent}
-use Rattle.checks.specs.declared.Lent.the-variants.{Exact, Wrong}
-use Rattle.checks.specs.Calls.{Told, cellChecks, allChecks, lentSlices, characterChecks, matrixChecks}
+use Rattle.limits.specs.declared.Lent.{Lent}
+use Rattle.limits.specs.declared.Lent.the-variants.{Exact, Wrong}
+use Rattle.limits.specs.Limits.{Told, lentSlices}
+use Rattle.checks.specs.Calls.{cellChecks, allChecks, characterChecks, matrixChecks}
 use Rattle.scores.specs.Scores.{Results}
 use Rattle.characters.specs.declared.Answer.{Answer}
 use Rattle.characters.specs.declared.Answer.the-variants as answer

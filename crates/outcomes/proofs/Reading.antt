@@ -10,7 +10,8 @@ use lib.ListN.{length}
 use Rattle.refusals.specs.declared.Refusal.{Refusal}
 use Rattle.refusals.specs.Checks.{Check, Refuses, Slice, slices}
 use Rattle.trees.specs.Answers.{treeFaults}
-use Rattle.checks.specs.Calls.{cellChecks, allChecks, lentSlices, characterChecks, matrixChecks}
+use Rattle.limits.specs.Limits.{lentSlices}
+use Rattle.checks.specs.Calls.{cellChecks, allChecks, characterChecks, matrixChecks}
 use Rattle.scores.specs.declared.Scores.{Scores}
 use Rattle.scores.specs.Scores.{Results}
 use Rattle.characters.specs.declared.Answer.{Answer}

@@ -8,7 +8,8 @@ use native.Mathlib.Omega.{arith}
 use Rattle.refusals.specs.declared.Refusal.{Refusal}
 use Rattle.refusals.specs.Checks.{Check, at, Refuses, Passes, Slice, slices}
 use Rattle.trees.specs.Answers.{treeFaults}
-use Rattle.checks.specs.Calls.{Outside, cellChecks, allChecks, lentSlices, characterChecks, matrixChecks}
+use Rattle.limits.specs.Limits.{Outside, lentSlices}
+use Rattle.checks.specs.Calls.{cellChecks, allChecks, characterChecks, matrixChecks}
 use Rattle.tables.specs.Tables.{stretch}
 use Rattle.entries.specs.Entries.{characterEntries, allEntries}
 use Rattle.corrections.specs.declared.Count.{Count}

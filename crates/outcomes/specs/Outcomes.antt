@@ -8,9 +8,10 @@ use lib.ListN.{length}
 use Rattle.refusals.specs.declared.Refusal.{Refusal}
 use Rattle.refusals.specs.Checks.{Check, at, Refuses, Slice, slices}
 use Rattle.choices.specs.declared.Resolve.{Resolve}
-use Rattle.checks.specs.declared.Lent.{Lent}
-use Rattle.checks.specs.declared.Lent.the-variants.{Exact, Wrong}
-use Rattle.checks.specs.Calls.{Outside, characterChecks, matrixChecks}
+use Rattle.limits.specs.declared.Lent.{Lent}
+use Rattle.limits.specs.declared.Lent.the-variants.{Exact, Wrong}
+use Rattle.limits.specs.Limits.{Outside}
+use Rattle.checks.specs.Calls.{characterChecks, matrixChecks}
 use Rattle.scores.specs.Scores.{Results}
 use Rattle.characters.specs.declared.Answer.{Answer}
 use Rattle.characters.specs.declared.Answer.the-variants as answer

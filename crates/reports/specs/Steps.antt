@@ -5,7 +5,7 @@ use mathlib.Core.List.{List}
 use Prim.Native.Nat.{ℕ, _-_, _*_, _≤_}
 use lib.ListN.{length}
 use Rattle.choices.specs.declared.Resolve.{Resolve}
-use Rattle.checks.specs.Calls.{InLimits}
+use Rattle.limits.specs.Limits.{InLimits}
 use Rattle.fields.specs.Fitting.{Fitting}
 use Rattle.reports.specs.Says.{Scored, Says}
 

@@ -16,9 +16,9 @@ use Rattle.refusals.proofs.Laws.{never-none, never-more, lowest-here}
 use Rattle.refusals.proofs.Order.{not-refused, clear-slice}
 use Rattle.cells.specs.Above.{AboveAt, AboveIn}
 use Rattle.choices.specs.declared.Resolve.{Resolve}
-use Rattle.checks.specs.declared.Lent.the-variants.{Exact}
+use Rattle.limits.specs.declared.Lent.the-variants.{Exact}
+use Rattle.limits.proofs.Lending.{in-limits, exact-clear}
 use Rattle.checks.specs.Calls.{characterChecks}
-use Rattle.checks.proofs.Lending.{in-limits, exact-clear}
 use Rattle.checks.proofs.Orders.{character-passes}
 use Rattle.scores.specs.declared.Scores.{Scores}
 use Rattle.scores.specs.Scores.{Results, AllLong, CharacterMeans}

@@ -9,7 +9,7 @@ use Rattle.parsimony.specs.Matrix.{stateOf}
 use Rattle.refusals.specs.Search.{Never}
 use Rattle.cells.specs.Above.{AboveAt}
 use Rattle.choices.specs.declared.Resolve.{Resolve}
-use Rattle.checks.specs.Calls.{InLimits}
+use Rattle.limits.specs.Limits.{InLimits}
 use Rattle.scores.specs.declared.Scores.{Scores}
 use Rattle.scores.specs.Scores.{Results, CharacterMeans}
 use Rattle.fields.specs.Fitting.{Fitting}

@@ -8,8 +8,8 @@ use mathlib.Core.List.{[], _∷_}
 use Rattle.refusals.specs.Checks.{Refuses}
 use Rattle.refusals.proofs.Laws.{told, told-not}
 use Rattle.refusals.proofs.Order.{clear-at}
-use Rattle.checks.specs.Calls.{Outside, InLimits}
-use Rattle.checks.proofs.Lending.{in-limits}
+use Rattle.limits.specs.Limits.{Outside, InLimits}
+use Rattle.limits.proofs.Lending.{in-limits}
 use Rattle.checks.proofs.Admitting.{all-small}
 use Rattle.outcomes.specs.Outcomes.{sevenSlice, sizeChecks, lent}
 use Rattle.outcomes.proofs.Lasts.{told-last}

@@ -8,8 +8,9 @@ use mathlib.Core.List.{[], _∷_}
 use Prim.Native.Nat.{ℕ, _+_, _-_, _*_, _≤_, _<_}
 use lib.ListN.{length}
 use Rattle.refusals.proofs.Laws.{told, told-not}
-use Rattle.checks.specs.Calls.{Outside, lentSlices, Told, InLimits, AdmitsCharacter}
-use Rattle.checks.proofs.Lending.{in-limits}
+use Rattle.limits.specs.Limits.{Outside, lentSlices, Told, InLimits}
+use Rattle.limits.proofs.Lending.{in-limits}
+use Rattle.checks.specs.Calls.{AdmitsCharacter}
 use Rattle.checks.proofs.Admitting.{all-small}
 use Rattle.checks.proofs.Orders.{admissible}
 use Rattle.histories.specs.Kept.{Table, tableSlices}

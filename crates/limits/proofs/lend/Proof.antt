@@ -6,9 +6,9 @@ use mathlib.Core.Path.{_≡_, refl, sym, _∙_, ap, subst}
 use mathlib.Core.Logic.{inl, inr}
 use Prim.Native.Nat.{ℕ, _+_, _-_, _*_, _≤_, _<_}
 use lib.ListN.{length}
-use Rattle.checks.proofs.Lending.{lent-wrong, lent-exact}
-use Rattle.checks.proofs.lend.Statement.{statement}
-use Rattle.checks.proofs.lend.Tie as tie
+use Rattle.limits.proofs.Lending.{lent-wrong, lent-exact}
+use Rattle.limits.proofs.lend.Statement.{statement}
+use Rattle.limits.proofs.lend.Tie as tie
 
 returns : tie.Need-returns
 returns c = lent-wrong _ _ _ ((c .before) .args .others) (c .if1 .taken)

@@ -6,9 +6,9 @@ use mathlib.Core.Path.{_≡_, refl, sym, _∙_, ap, subst}
 use mathlib.Core.Logic.{inl, inr}
 use Prim.Native.Nat.{ℕ, _+_, _-_, _*_, _≤_, _<_}
 use lib.ListN.{length}
-use Rattle.checks.proofs.Lending.{not-outside}
-use Rattle.checks.proofs.outside.Statement.{statement}
-use Rattle.checks.proofs.outside.Tie as tie
+use Rattle.limits.proofs.Lending.{not-outside}
+use Rattle.limits.proofs.outside.Statement.{statement}
+use Rattle.limits.proofs.outside.Tie as tie
 
 -- where the proof stands, and what came before
 abbrev else1-of-else4 : tie.Else4 → tie.Else1

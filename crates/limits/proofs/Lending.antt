@@ -8,9 +8,9 @@ use native.Mathlib.Decide.{ℕ-discrete}
 use native.Mathlib.Omega.{arith, by-contra}
 use Rattle.refusals.specs.Checks.{at, Clear, Slice}
 use Rattle.refusals.proofs.Order.{clear-slice}
-use Rattle.checks.specs.declared.Lent.{Lent}
-use Rattle.checks.specs.declared.Lent.the-variants.{Exact, Wrong}
-use Rattle.checks.specs.Calls.{Outside, InLimits, Told, LentTo}
+use Rattle.limits.specs.declared.Lent.{Lent}
+use Rattle.limits.specs.declared.Lent.the-variants.{Exact, Wrong}
+use Rattle.limits.specs.Limits.{Outside, InLimits, Told, LentTo}
 
 -- ---- one slice
 

@@ -1,0 +1,3 @@
+-- What is told of the slices, and of the limits of n and c.
+-- Assumes nothing.
+pub mod Lending
