@@ -12,7 +12,8 @@ use Rattle.refusals.specs.Search.{Never}
 use Rattle.refusals.specs.Checks.{Refuses, Passes, slices, Slice}
 use Rattle.cells.specs.Above.{AboveAt}
 use Rattle.cells.proofs.Reading.{none-above, states-small}
-use Rattle.totals.specs.Totals.{Small, Given}
+use Rattle.extents.specs.Extents.{Small}
+use Rattle.totals.specs.Totals.{Given}
 use Rattle.limits.specs.declared.Lent.{Lent}
 use Rattle.limits.specs.declared.Lent.the-variants.{Exact}
 use Rattle.limits.specs.Limits.{Outside, lentSlices, Told, InLimits}

@@ -37,7 +37,7 @@ pub fn score_all(n: usize, c: usize, root: u16, top: u16, tree: &[u16], matrix: 
     let root = wide(root);
     let top = wide(top);
     let length = totals::total_length(n, c, root, top, tree, matrix);
-    let m = totals::total_m(n, c, matrix);
-    let g = totals::total_g(n, c, root, matrix);
+    let m = extents::total_m(n, c, matrix);
+    let g = extents::total_g(n, c, root, matrix);
     score(length, m, g)
 }

@@ -17,7 +17,7 @@ use Rattle.blocks.specs.Blocks.{Room}
 use Rattle.passes.specs.Passes.{Passable, Passed, PassedIn}
 use Rattle.entry_lists.specs.EntryLists as lists
 use Rattle.entry_lists.proofs.Passed.{one-settles, one-fits}
-use Rattle.totals.specs.Totals.{Cells}
+use Rattle.extents.specs.Extents.{Cells}
 use Rattle.tables.specs.Tables.{stretch, withStretch, TableLong, TableMeans, Settles, BuiltTo, TakenAll, Takes, Builds}
 use Rattle.tables.proofs.Stretches.{stretch-in, stretch-long, with-long, with-here, with-other}
 

@@ -13,7 +13,7 @@ use Rattle.shapes.specs.Filling.{Orders}
 use Rattle.blocks.specs.Blocks.{Room}
 use Rattle.passes.specs.Passes.{PassedIn}
 use Rattle.entry_lists.specs.EntryLists.{Taken}
-use Rattle.totals.specs.Totals.{Cells}
+use Rattle.extents.specs.Extents.{Cells}
 
 -- the stretch of the character j, where each has w entries
 abbrev pub stretch : (w : ℕ) → List ℕ → ℕ → List ℕ

@@ -23,7 +23,8 @@ use Rattle.blocks.specs.Blocks.{Room}
 use Rattle.passes.specs.Passes.{Passable, Passed}
 use Rattle.entry_lists.specs.EntryLists.{lengthAt}
 use Rattle.entry_lists.proofs.Passed.{ends, length-is, length-small}
-use Rattle.totals.specs.Totals.{Small, Cells, GivenBlocks, HasLength, Adds, added}
+use Rattle.extents.specs.Extents.{Small, Cells}
+use Rattle.totals.specs.Totals.{GivenBlocks, HasLength, Adds, added}
 
 module _ (n c ρ δ : ℕ) (left right matrix : List ℕ) where
   module _ (tree : List ℕ) (O : Orders n δ tree ρ left right) where

@@ -1,3 +1,3 @@
--- Sums over all characters.
+-- The length of a tree.
 -- Assumes nothing.
 pub mod Totals

@@ -1,9 +1,8 @@
--- Sums over all characters of a matrix, and what the steps towards them ask and leave.
+-- The length of a tree: the sum over all characters of a matrix, and what the steps towards it ask and leave.
 -- Assumes nothing.
 use mathlib.Core.Path.{_≡_}
 use mathlib.Core.List.{List}
-use Prim.Native.Nat.{ℕ, _+_, _-_, _*_, _≤_, _<_}
-use lib.ListN.{length}
+use Prim.Native.Nat.{ℕ, _+_, _≤_}
 use Rattle.parsimony.specs.Lists.{sum, from}
 use Rattle.parsimony.specs.Table.{Accepted}
 use Rattle.parsimony.specs.Ordered.{ordered}
@@ -14,18 +13,7 @@ use Rattle.trees.specs.Answers.{Sized}
 use Rattle.shapes.specs.Filling.{Orders}
 use Rattle.blocks.specs.Blocks.{Room}
 use Rattle.entry_lists.specs.EntryLists.{Ends, lengthAt}
-
--- no state of the c characters is above 9999
-abbrev pub Small : (n c : ℕ) (matrix : List ℕ) → Type 0
-Small n c matrix = (j k : ℕ) → 1 ≤ j → j ≤ c → 1 ≤ k → k ≤ n → stateOf matrix c j k ≤ 9999
-
--- a matrix of n taxa and c characters
-pub record Cells (n c : ℕ) (matrix : List ℕ) : Type 0 where
-  pub least : 1 ≤ n
-  pub most : n ≤ 256
-  pub few : c ≤ 512
-  pub rows : length matrix ≡ n * c
-  pub small : Small n c matrix
+use Rattle.extents.specs.Extents.{Cells}
 
 -- an accepted tree, and a matrix for its taxa
 pub record Given (n c ρ δ : ℕ) (tree matrix : List ℕ) : Type 0 where

@@ -9,9 +9,9 @@ use Rattle.parsimony.specs.Lists.{sum, from}
 use Rattle.parsimony.specs.Matrix.{stateOf}
 use Rattle.parsimony.specs.Index as index
 use Rattle.parsimony.proofs.Sums.{sum-next}
-use Rattle.totals.proofs.Bounds.{readable, m-small}
-use Rattle.totals.proofs.total_m.Statement.{statement}
-use Rattle.totals.proofs.total_m.Tie as tie
+use Rattle.extents.proofs.Bounds.{readable, m-small}
+use Rattle.extents.proofs.total_m.Statement.{statement}
+use Rattle.extents.proofs.total_m.Tie as tie
 
 abbrev Inv-loop : tie.InvT-loop
 Inv-loop n c matrix total₀ j₀ total j = (j ≤ c) × (total ≡ sum (λ k. index.m n (stateOf matrix c k)) (from 1 j)) × (total ≤ 9999 * j)

@@ -14,7 +14,7 @@ use Rattle.parsimony.proofs.Sums.{sum-most}
 use Rattle.parsimony.proofs.Spread.{m-is}
 use Rattle.parsimony.proofs.Ranges.Distances.{distance-is}
 use Rattle.indices.specs.Indices.{Readable}
-use Rattle.totals.specs.Totals.{Cells}
+use Rattle.extents.specs.Extents.{Cells}
 
 module _ (n c : ℕ) (matrix : List ℕ) (C : Cells n c matrix) where
   pub readable : (j : ℕ) → 1 ≤ j → j ≤ c → Readable n c j matrix

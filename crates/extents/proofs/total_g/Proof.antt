@@ -9,9 +9,9 @@ use Rattle.parsimony.specs.Lists.{sum, from}
 use Rattle.parsimony.specs.Matrix.{stateOf}
 use Rattle.parsimony.specs.Index as index
 use Rattle.parsimony.proofs.Sums.{sum-next}
-use Rattle.totals.proofs.Bounds.{readable, g-small}
-use Rattle.totals.proofs.total_g.Statement.{statement}
-use Rattle.totals.proofs.total_g.Tie as tie
+use Rattle.extents.proofs.Bounds.{readable, g-small}
+use Rattle.extents.proofs.total_g.Statement.{statement}
+use Rattle.extents.proofs.total_g.Tie as tie
 
 abbrev Inv-loop : tie.InvT-loop
 Inv-loop n c root matrix total₀ j₀ total j = (j ≤ c) × (total ≡ sum (λ k. index.g n (stateOf matrix c k) root) (from 1 j)) × (total ≤ 2559744 * j)

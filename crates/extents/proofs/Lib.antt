@@ -1,0 +1,3 @@
+-- How high m and g can be.
+-- Assumes nothing.
+mod Bounds

@@ -1,0 +1,3 @@
+-- A matrix whose characters can be summed over.
+-- Assumes nothing.
+pub mod Extents
