@@ -26,7 +26,8 @@ use Rattle.parsimony.proofs.Characters.{
 }
 use Rattle.parsimony.proofs.Uniqueness.{one-least}
 use Rattle.parsimony.proofs.Tables.Trees.{Tree}
-use Rattle.shapes.specs.Shape.{Filled, IsOrder}
+use Rattle.shapes.specs.Shape.{Filled}
+use Rattle.orders.specs.Orders.{IsOrder}
 use Rattle.shapes.specs.Filling.{Orders}
 use Rattle.indices.specs.Indices.{Readable}
 use Rattle.descents.specs.Descents.{Descends, Finals}

@@ -46,7 +46,7 @@ pub fn score_one(
     let mut right = [0u16; 254];
     let mut order = [0u16; 254];
     shapes::descendants(n, tree, &mut left, &mut right);
-    shapes::order(n, top, &left, &right, &mut order);
+    orders::order(n, top, &left, &right, &mut order);
     let root = wide(root);
     let top = wide(top);
     let length = first_passes::begin(

@@ -34,7 +34,7 @@ pub fn correct_character(
         });
     }
     let mut path = [0u16; 254];
-    let count = shapes::path(n, tree, taxon, &mut path);
+    let count = paths::path(n, tree, taxon, &mut path);
     let bad = repairs::look_beside(n, taxon, count, tree, &path, lows, highs, lengths);
     if let Found::At(node) = bad {
         return Count::Refused(Refusal {

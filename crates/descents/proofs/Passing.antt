@@ -18,7 +18,8 @@ use Rattle.parsimony.proofs.Characters.{entry-written, entry-other}
 use Rattle.parsimony.proofs.Tables.Trees.{Tree, δ-ancestor}
 use Rattle.ranges.specs.declared.Range.{Range}
 use Rattle.ranges.specs.Ranges.{rangeOf, IsRange}
-use Rattle.shapes.specs.Shape.{Filled, IsOrder}
+use Rattle.shapes.specs.Shape.{Filled}
+use Rattle.orders.specs.Orders.{IsOrder}
 use Rattle.shapes.proofs.Subtrees as subtrees
 use Rattle.nodes.specs.Nodes.{Readable, aboveOf, Seeing, Seen, Finishing, Finished}
 use Rattle.descents.specs.Descents.{Descends, Finals}

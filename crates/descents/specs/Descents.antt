@@ -12,7 +12,7 @@ use Rattle.parsimony.specs.Steps.{SecondPass, final}
 use Rattle.parsimony.specs.Matrix.{stateOf}
 use Rattle.parsimony.specs.Character.{atNode, cells, ranges}
 use Rattle.trees.specs.Answers.{Sized}
-use Rattle.shapes.specs.Shape.{IsOrder}
+use Rattle.orders.specs.Orders.{IsOrder}
 
 -- ---- what is given
 

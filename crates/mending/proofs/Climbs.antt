@@ -10,8 +10,8 @@ use lib.ListN.{length}
 use Rattle.parsimony.specs.Table.{ancestor, climb, deep, below, IsTree}
 use Rattle.parsimony.proofs.Tables.Climbing.{climb-more}
 use Rattle.parsimony.proofs.Tables.Trees.{Tree}
-use Rattle.shapes.specs.Shape.{pathOf}
-use Rattle.shapes.proofs.Paths.{path-at, path-all}
+use Rattle.paths.specs.Paths.{pathOf}
+use Rattle.paths.proofs.Paths.{path-at, path-all}
 use Rattle.shapes.proofs.Subtrees as subtrees
 
 module _ (T : Tree) (t count : ℕ) (counts : count ≡ length (pathOf (T .n) (T .tree) t)) where

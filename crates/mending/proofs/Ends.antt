@@ -11,7 +11,7 @@ use Rattle.parsimony.specs.Steps.{Settled}
 use Rattle.parsimony.specs.Matrix.{stateOf}
 use Rattle.parsimony.specs.Character.{atNode, ranges, sizes}
 use Rattle.parsimony.proofs.Tables.Trees.{Tree, steps-below}
-use Rattle.shapes.proofs.Paths.{path-all}
+use Rattle.paths.proofs.Paths.{path-all}
 use Rattle.mending.proofs.Climbs as climbs
 use Rattle.mending.proofs.Turns.{MendedTo}
 use Rattle.mending.specs.Mending.{Mended, MendsPath}

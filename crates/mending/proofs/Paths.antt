@@ -21,8 +21,9 @@ use Rattle.parsimony.proofs.Tables.Climbing.{climb-more}
 use Rattle.parsimony.proofs.Tables.Mending.{Alike, stays-settled}
 use Rattle.parsimony.proofs.Tables.Trees.{Tree, steps-below}
 use Rattle.parsimony.proofs.Ranges.Joins.{join-high, cost-high}
-use Rattle.shapes.specs.Shape.{Filled, pathOf}
-use Rattle.shapes.proofs.Paths.{path-short, path-at}
+use Rattle.shapes.specs.Shape.{Filled}
+use Rattle.paths.specs.Paths.{pathOf}
+use Rattle.paths.proofs.Paths.{path-short, path-at}
 use Rattle.shapes.proofs.Subtrees as subtrees
 use Rattle.nodes.specs.Nodes.{Readable}
 use Rattle.mending.proofs.Climbs as climbs

@@ -14,7 +14,8 @@ use Rattle.parsimony.specs.Character.{atNode, ranges, sizes}
 use Rattle.ranges.specs.declared.Range.{Range}
 use Rattle.ranges.specs.Ranges.{Joined}
 use Rattle.trees.specs.Answers.{Sized}
-use Rattle.shapes.specs.Shape.{Filled, pathOf}
+use Rattle.shapes.specs.Shape.{Filled}
+use Rattle.paths.specs.Paths.{pathOf}
 use Rattle.nodes.specs.Nodes.{Readable}
 
 -- an entry that a pass can leave: a range, no higher than 9999, and a length of at most 5,089,491

@@ -8,7 +8,8 @@ use lib.ListN.{length, getD}
 use Rattle.parsimony.specs.Character.{atNode}
 use Rattle.parsimony.proofs.Tables.Trees.{Tree, δ-most}
 use Rattle.parsimony.proofs.Tables.Whole.{δ-inner}
-use Rattle.shapes.specs.Shape.{Filled, IsOrder}
+use Rattle.shapes.specs.Shape.{Filled}
+use Rattle.orders.specs.Orders.{IsOrder}
 use Rattle.shapes.specs.Filling.{Orders}
 use Rattle.descents.specs.Descents.{Descends, Finals}
 use Rattle.entries.proofs.Searching.{clean}

@@ -28,7 +28,7 @@ fn read_entries(
     let mut right = [0u16; 254];
     let mut order = [0u16; 254];
     shapes::descendants(n, tree, &mut left, &mut right);
-    shapes::order(n, top, &left, &right, &mut order);
+    orders::order(n, top, &left, &right, &mut order);
     let root = wide(root);
     let top = wide(top);
     descents::final_ranges(

@@ -14,9 +14,8 @@ use Rattle.parsimony.proofs.Tables.Trees.{Tree, steps-below}
 use Rattle.refusals.specs.Search.{Lowest, Never, Finds}
 use Rattle.refusals.specs.declared.Found.{Found}
 use Rattle.refusals.specs.declared.Found.the-variants.{At, Nowhere}
-use Rattle.shapes.specs.Shape.{pathOf}
-use Rattle.shapes.specs.Filling.{Pathable, IsPath}
-use Rattle.shapes.proofs.Paths.{path-at, path-all, path-short}
+use Rattle.paths.specs.Paths.{pathOf, Pathable, IsPath}
+use Rattle.paths.proofs.Paths.{path-at, path-all, path-short}
 use Rattle.shapes.proofs.Subtrees.{ancestor-in}
 use Rattle.entries.specs.Entries.{BadAt, BadBeside, Marks, Marked, BadMarked, Besides}
 use Rattle.repairs.specs.Repairs.{Correctable, HasPath, Looks}

@@ -9,7 +9,7 @@ use Rattle.parsimony.specs.Table.{Accepted}
 use Rattle.parsimony.specs.Matrix.{cellNumber, stateOf}
 use Rattle.refusals.specs.Search.{Never}
 use Rattle.trees.specs.Answers.{Sized}
-use Rattle.shapes.specs.Shape.{pathOf}
+use Rattle.paths.specs.Paths.{pathOf}
 use Rattle.entries.specs.Entries.{BadBeside, OneCharacter}
 use Rattle.mending.specs.Mending as mending
 

@@ -7,7 +7,7 @@ use Prim.Native.Nat.{ℕ, _+_, _-_, _*_, _≤_, _<_}
 use lib.ListN.{length}
 use Rattle.shapes.proofs.Ready.{ready}
 use Rattle.parsimony.specs.Matrix.{stateOf}
-use Rattle.shapes.specs.Shape.{IsOrder}
+use Rattle.orders.specs.Orders.{IsOrder}
 use Rattle.indices.proofs.Most.{m-most}
 use Rattle.scores.specs.Scores.{Results, CharacterMeans}
 use Rattle.first_passes.specs.FirstPasses.{BegunIn}

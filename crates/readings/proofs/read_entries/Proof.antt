@@ -7,7 +7,7 @@ use mathlib.Core.List.{List}
 use Prim.Native.Nat.{ℕ, _+_, _-_, _*_, _≤_, _<_}
 use lib.ListN.{length}
 use Rattle.shapes.proofs.Ready.{ready}
-use Rattle.shapes.specs.Shape.{IsOrder}
+use Rattle.orders.specs.Orders.{IsOrder}
 use Rattle.readings.specs.Readings.{Clean}
 use Rattle.readings.proofs.Reading.{orders, descends, has-top, wider, is-read}
 use Rattle.readings.proofs.read_entries.Statement.{statement}

@@ -12,8 +12,9 @@ use lib.Seq.{getD-take, length-take-le, take-suc-set}
 use Rattle.parsimony.specs.Lists.{choose}
 use Rattle.parsimony.specs.Table.{descendants, IsTree}
 use Rattle.parsimony.proofs.Tables.Trees.{Tree}
-use Rattle.shapes.specs.Filling.{putAt, placeAfter, Orders, Listed}
-use Rattle.shapes.proofs.Queues.{putIf, Queue, begins, room-first, room-second, next-turn, is-order}
+use Rattle.shapes.specs.Filling.{Orders}
+use Rattle.orders.specs.Orders.{putAt, placeAfter, Listed}
+use Rattle.orders.proofs.Queues.{putIf, Queue, begins, room-first, room-second, next-turn, is-order}
 
 -- ---- its first k entries
 

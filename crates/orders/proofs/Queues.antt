@@ -26,8 +26,9 @@ use Rattle.parsimony.proofs.Often.{
 use Rattle.parsimony.proofs.Tables.Descendants.{often-descendants}
 use Rattle.parsimony.proofs.Tables.Trees.{Tree, δ-ancestor, δ-some, δ-most}
 use Rattle.parsimony.proofs.Tables.Whole.{δ-inner}
-use Rattle.shapes.specs.Shape.{under, IsOrder}
+use Rattle.shapes.specs.Shape.{under}
+use Rattle.orders.specs.Orders.{IsOrder}
 use Rattle.shapes.proofs.Subtrees as subtrees
 
 -- a queue with one more node, if it is interior
 abbrev pub putIf : (n a : ℕ) → List ℕ → List ℕ

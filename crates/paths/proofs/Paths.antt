@@ -27,8 +27,7 @@ use Rattle.parsimony.proofs.Sums.{
 use Rattle.parsimony.proofs.Tables.Descendants.{past-table, often-descendants}
 use Rattle.parsimony.proofs.Tables.Climbing.{climb-none, climb-add, climb-more, meets-none}
 use Rattle.parsimony.proofs.Tables.Trees.{Tree, out, meets-least, meets-all, below-steps}
-use Rattle.shapes.specs.Shape.{pathBy, pathOf}
-use Rattle.shapes.specs.Filling.{Pathable, IsPath}
+use Rattle.paths.specs.Paths.{pathBy, pathOf, Pathable, IsPath}
 
 module _ (T : Tree) where
   open Tree T using (n, tree, ρ, δ, is-tree)

@@ -7,9 +7,9 @@ use mathlib.Core.Path.{_≡_, _∙_, sym}
 use Prim.Native.Nat.{ℕ, _+_, _-_, _*_, _≤_, _<_}
 use lib.ListN.{length, length-set}
 use Rattle.parsimony.proofs.Tables.Descendants.{entry-of}
-use Rattle.shapes.proofs.Paths.{WalkedTo, walk-starts, room, walk-on, walk-ends}
-use Rattle.shapes.proofs.path.Statement.{statement}
-use Rattle.shapes.proofs.path.Tie as tie
+use Rattle.paths.proofs.Paths.{WalkedTo, walk-starts, room, walk-on, walk-ends}
+use Rattle.paths.proofs.path.Statement.{statement}
+use Rattle.paths.proofs.path.Tie as tie
 
 abbrev Inv-loop : tie.InvT-loop
 Inv-loop n tree node path₀ count₀ at₀ path count at = WalkedTo n tree node path₀ count at path

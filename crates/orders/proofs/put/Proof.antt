@@ -7,9 +7,9 @@ use mathlib.Core.Path.{_≡_, refl, sym, _∙_}
 use Prim.Native.Nat.{_+_, _≤_, _<_}
 use lib.ListN.{set}
 use Rattle.parsimony.proofs.Sums.{choose-yes, choose-no}
-use Rattle.shapes.specs.Filling.{putAt, placeAfter}
-use Rattle.shapes.proofs.put.Statement.{statement}
-use Rattle.shapes.proofs.put.Tie as tie
+use Rattle.orders.specs.Orders.{putAt, placeAfter}
+use Rattle.orders.proofs.put.Statement.{statement}
+use Rattle.orders.proofs.put.Tie as tie
 
 few : (c : tie.Then1) → (c .before .before) .args .node ≤ (c .before .before) .args .n
 few c = omega (arith, c .if1 .taken, (c .before) .wide .ensures)

@@ -6,10 +6,10 @@ use native.Mathlib.Omega.{arith}
 use mathlib.Core.Path.{_≡_, refl, sym, _∙_, ap, subst}
 use Prim.Native.Nat.{ℕ, _-_, _≤_, _<_}
 use lib.ListN.{length, getD}
-use Rattle.shapes.specs.Filling.{placeAfter}
-use Rattle.shapes.proofs.Turns.{Turning, turning-begins, turned-on, turning-ends, node-inner, first-room, first-long, second-room}
-use Rattle.shapes.proofs.order.Statement.{statement}
-use Rattle.shapes.proofs.order.Tie as tie
+use Rattle.orders.specs.Orders.{placeAfter}
+use Rattle.orders.proofs.Turns.{Turning, turning-begins, turned-on, turning-ends, node-inner, first-room, first-long, second-room}
+use Rattle.orders.proofs.order.Statement.{statement}
+use Rattle.orders.proofs.order.Tie as tie
 
 abbrev Inv-loop : tie.InvT-loop
 Inv-loop n top left right order₀ filled₀ next₀ order filled next = Turning n top left right order filled next
