@@ -1,4 +1,3 @@
--- How entries, rows and subtrees are settled.
+-- How subtrees are settled.
 -- Assumes nothing.
-pub mod Rows
 pub mod Walks

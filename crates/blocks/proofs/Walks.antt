@@ -20,7 +20,8 @@ use Rattle.parsimony.proofs.Tables.Mending.{Alike, stays-settled}
 use Rattle.parsimony.proofs.Ranges.Joins.{join-high, cost-high}
 use Rattle.shapes.specs.Shape.{under, inside, Filled}
 use Rattle.shapes.proofs.Subtrees as subtrees
-use Rattle.blocks.specs.Blocks.{rangeAt, Same, Room, Fits, Settleable, SettledRow, Walks, WalkedIn}
+use Rattle.rows.specs.Rows.{rangeAt, Same, Room, Settleable, SettledRow}
+use Rattle.blocks.specs.Blocks.{Fits, Walks, WalkedIn}
 
 -- what stays the same stays the same
 pub same-on : (lows highs lengths lows₁ highs₁ lengths₁ lows₂ highs₂ lengths₂ : List ℕ) (w i v : ℕ)

@@ -1,3 +1,3 @@
--- Several characters side by side, and what the first pass does to them.
+-- What the first pass does to several characters side by side.
 -- Assumes nothing.
 pub mod Blocks

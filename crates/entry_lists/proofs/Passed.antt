@@ -25,7 +25,8 @@ use Rattle.parsimony.proofs.Tables.Trees.{Tree, δ-some, δ-most}
 use Rattle.shapes.specs.Shape.{inside}
 use Rattle.shapes.specs.Filling.{Orders}
 use Rattle.shapes.proofs.Subtrees as subtrees
-use Rattle.blocks.specs.Blocks.{rangeAt, Fits}
+use Rattle.rows.specs.Rows.{rangeAt}
+use Rattle.blocks.specs.Blocks.{Fits}
 use Rattle.passes.specs.Passes.{PassedIn}
 use Rattle.entry_lists.specs.EntryLists.{Taken, Ends, lengthAt}
 

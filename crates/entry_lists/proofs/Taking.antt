@@ -11,7 +11,7 @@ use Rattle.parsimony.specs.Ordered as ordered
 use Rattle.parsimony.specs.Ordered.{span}
 use Rattle.parsimony.specs.Matrix.{stateOf}
 use Rattle.parsimony.specs.Character.{atNode}
-use Rattle.blocks.proofs.Rows.{place-in}
+use Rattle.rows.proofs.Rows.{place-in}
 use Rattle.entry_lists.specs.EntryLists.{Takes, Taken, Ends, lengthAt}
 
 -- the first k entries are taken

@@ -7,7 +7,7 @@ use lib.ListN.{length}
 use Rattle.parsimony.specs.Ordered as ordered
 use Rattle.parsimony.specs.Matrix.{stateOf}
 use Rattle.parsimony.specs.Character.{atNode}
-use Rattle.blocks.specs.Blocks.{rangeAt}
+use Rattle.rows.specs.Rows.{rangeAt}
 
 -- ---- its entries
 

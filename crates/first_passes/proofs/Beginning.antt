@@ -11,7 +11,7 @@ use Rattle.parsimony.specs.Steps.{FirstPass}
 use Rattle.parsimony.specs.Matrix.{stateOf}
 use Rattle.parsimony.specs.Character.{atNode, cells, ranges, sizes}
 use Rattle.shapes.specs.Filling.{Orders}
-use Rattle.blocks.specs.Blocks.{Room}
+use Rattle.rows.specs.Rows.{Room}
 use Rattle.passes.specs.Passes.{Passable, Passed}
 use Rattle.entry_lists.specs.EntryLists.{Taken, Ends, lengthAt}
 use Rattle.entry_lists.proofs.Passed.{one-settles, one-fits, ends, length-is}

@@ -10,8 +10,8 @@ use native.Mathlib.Omega.{arith}
 use lib.ListN.{length, getD, set, length-set}
 use Rattle.parsimony.specs.Matrix.{stateOf}
 use Rattle.parsimony.proofs.Matrices.{cell-in, state-written, state-other}
-use Rattle.blocks.specs.Blocks.{Same}
-use Rattle.blocks.proofs.Rows.{place-in}
+use Rattle.rows.specs.Rows.{Same}
+use Rattle.rows.proofs.Rows.{place-in}
 use Rattle.blocks.proofs.Walks.{same-on}
 use Rattle.passes.specs.Passes.{Loads, HasState, LoadedRow, Loaded}
 

@@ -1,5 +1,5 @@
 -- The first pass over a block of w characters of a matrix, those after the first a.
--- A block's lists are as in the crate `blocks`: a row for each node, and in it an entry for each of the w characters.
+-- A block's lists are as in the crate `rows`: a row for each node, and in it an entry for each of the w characters.
 -- Assumes nothing.
 use mathlib.Core.Path.{_≡_}
 use mathlib.Core.Logic.{_≢_, _⊎_}
@@ -10,7 +10,8 @@ use Rattle.parsimony.specs.Ordered as ordered
 use Rattle.parsimony.specs.Steps.{Settled}
 use Rattle.parsimony.specs.Matrix.{stateOf}
 use Rattle.shapes.specs.Filling.{Orders}
-use Rattle.blocks.specs.Blocks.{rangeAt, Same, Room, Fits}
+use Rattle.rows.specs.Rows.{rangeAt, Same, Room}
+use Rattle.blocks.specs.Blocks.{Fits}
 
 -- ---- the taxa's rows
 

@@ -13,7 +13,7 @@ use Rattle.parsimony.specs.Character.{FirstMeans}
 use Rattle.parsimony.proofs.Characters.{first-means}
 use Rattle.parsimony.proofs.Tables.Trees.{Tree}
 use Rattle.shapes.specs.Filling.{Orders}
-use Rattle.blocks.specs.Blocks.{Room}
+use Rattle.rows.specs.Rows.{Room}
 use Rattle.passes.specs.Passes.{Passable, Passed, PassedIn}
 use Rattle.entry_lists.specs.EntryLists as lists
 use Rattle.entry_lists.proofs.Passed.{one-settles, one-fits}

@@ -10,7 +10,7 @@ use Rattle.parsimony.specs.Ordered.{ordered}
 use Rattle.parsimony.specs.Matrix.{stateOf}
 use Rattle.parsimony.specs.Character.{atNode, cells, ranges, sizes, FirstMeans}
 use Rattle.shapes.specs.Filling.{Orders}
-use Rattle.blocks.specs.Blocks.{Room}
+use Rattle.rows.specs.Rows.{Room}
 use Rattle.passes.specs.Passes.{PassedIn}
 use Rattle.entry_lists.specs.EntryLists.{Taken}
 use Rattle.extents.specs.Extents.{Cells}

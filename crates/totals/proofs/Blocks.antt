@@ -19,7 +19,7 @@ use Rattle.parsimony.proofs.Tables.Trees.{Tree}
 use Rattle.parsimony.proofs.Tables.Whole.{whole}
 use Rattle.parsimony.proofs.Tables.Ways.{whole-least}
 use Rattle.shapes.specs.Filling.{Orders}
-use Rattle.blocks.specs.Blocks.{Room}
+use Rattle.rows.specs.Rows.{Room}
 use Rattle.passes.specs.Passes.{Passable, Passed}
 use Rattle.entry_lists.specs.EntryLists.{lengthAt}
 use Rattle.entry_lists.proofs.Passed.{ends, length-is, length-small}

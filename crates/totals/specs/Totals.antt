@@ -11,7 +11,7 @@ use Rattle.parsimony.specs.Matrix.{stateOf}
 use Rattle.parsimony.specs.Character.{cells}
 use Rattle.trees.specs.Answers.{Sized}
 use Rattle.shapes.specs.Filling.{Orders}
-use Rattle.blocks.specs.Blocks.{Room}
+use Rattle.rows.specs.Rows.{Room}
 use Rattle.entry_lists.specs.EntryLists.{Ends, lengthAt}
 use Rattle.extents.specs.Extents.{Cells}
 

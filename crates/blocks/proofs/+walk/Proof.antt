@@ -15,7 +15,7 @@ use borrow.Fn.PlainCycle.{Measures, is, falls, and}
 use Rattle.blocks.proofs.walk.Reads as walk
 use Rattle.blocks.proofs.walk.Kinds as walk-kinds
 use Rattle.blocks.proofs.+walk.Lts-walk as walk-lts
-use Rattle.blocks.proofs.settle.Reads as settle-reads
+use Rattle.rows.proofs.settle.Reads as settle-reads
 use Rattle.refusals.proofs.wide.Reads as wide-reads
 use Rattle.blocks.proofs.+walk.{statement}
 use Rattle.blocks.proofs.+walk.Tie.{close}

@@ -5,7 +5,7 @@ use native.Mathlib.Omega.{arith}
 use mathlib.Core.Path.{_≡_, refl, sym, _∙_, ap, ap₂, subst}
 use Prim.Native.Nat.{ℕ, suc, _+_, _-_, _*_, _≤_, _<_}
 use lib.ListN.{length, getD}
-use Rattle.blocks.proofs.Rows.{row-in}
+use Rattle.rows.proofs.Rows.{row-in}
 use Rattle.passes.specs.Passes.{LoadedRow}
 use Rattle.passes.proofs.Loading.{row-start, cell-place, row-place, none-loaded, row-loaded, one-more}
 use Rattle.passes.proofs.load_row.Statement.{statement}

@@ -5,10 +5,10 @@ use native.Mathlib.Omega.{arith}
 use mathlib.Core.Path.{_≡_, refl, sym, _∙_, ap}
 use Prim.Native.Nat.{ℕ, _+_, _-_, _*_, _≤_}
 use lib.ListN.{length, length-set}
-use Rattle.blocks.specs.Blocks.{SettledRow}
-use Rattle.blocks.proofs.Rows.{place-in, row-in, all-settled, none-settled, placed, one-more}
-use Rattle.blocks.proofs.settle.Statement.{statement}
-use Rattle.blocks.proofs.settle.Tie as tie
+use Rattle.rows.specs.Rows.{SettledRow}
+use Rattle.rows.proofs.Rows.{place-in, row-in, all-settled, none-settled, placed, one-more}
+use Rattle.rows.proofs.settle.Statement.{statement}
+use Rattle.rows.proofs.settle.Tie as tie
 
 abbrev Inv-loop : tie.InvT-loop
 Inv-loop node left right w lows₀ highs₀ lengths₀ at a b i₀ lows highs lengths i =

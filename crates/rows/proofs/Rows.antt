@@ -12,7 +12,7 @@ use Rattle.parsimony.specs.Ordered as ordered
 use Rattle.parsimony.specs.Ordered.{span}
 use Rattle.parsimony.specs.Matrix.{stateOf}
 use Rattle.parsimony.proofs.Matrices.{cell-in, state-place, state-written, state-other}
-use Rattle.blocks.specs.Blocks.{rangeAt, Same, Placed, SettledAt, Settleable, SettledRow}
+use Rattle.rows.specs.Rows.{rangeAt, Same, Placed, SettledAt, Settleable, SettledRow}
 
 -- the places of a row are places of the lists
 pub place-in : (v w i : ℕ) → 1 ≤ v → v ≤ 510 → w ≤ 8 → i < w → (v - 1) * w + i < 4080

@@ -4,8 +4,8 @@ use borrow.Author.Needs.{needs}
 use mathlib.Core.Path.{_≡_, refl, sym, _∙_, ap}
 use Prim.Native.Nat.{ℕ, _+_}
 use lib.ListN.{getD, set}
-use Rattle.blocks.proofs.settle_one.Statement.{statement}
-use Rattle.blocks.proofs.settle_one.Tie as tie
+use Rattle.rows.proofs.settle_one.Statement.{statement}
+use Rattle.rows.proofs.settle_one.Tie as tie
 
 -- where the proof stands, and what came before
 abbrev cost-of-long : tie.After-long → tie.After-cost

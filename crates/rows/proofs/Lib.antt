@@ -1,0 +1,3 @@
+-- How entries and rows are settled.
+-- Assumes nothing.
+pub mod Rows
