@@ -133,6 +133,7 @@ module _ (node n w : ℕ) (tree : List ℕ) (ρ δ : ℕ) (left right lows highs
             let (f, g) = W .fits i k p q r s in
             (omega arith, omega arith, omega (arith, W .none i k p q r s))
 
+        -- the entries of the first descendant are as the first walk left them and the second kept them, those of the second as the second left them
         first-fits : (i : ℕ) → 1 ≤ i → i ≤ w → Fit i a
         first-fits i p q = go (decLe a n)
           where

@@ -212,6 +212,7 @@ module _ (n c j : ℕ) (tree matrix : List ℕ) (T : Table) (lows highs : List �
       (rw (p, q) (H′ .finals)) in
       (H .length ∙ rw (p, q) (sym (H′ .length)), e, d)
 
+  -- by the cases of two answers, as for a correction, whose enum is another
   pub kept-character-outcome : (lows′ highs′ lows″ highs″ : List ℕ) (r r′ : Length)
       → AnswersKept n c j tree matrix T lows highs lows′ highs′ r → AnswersKept n c j tree matrix T lows highs lows″ highs″ r′
       → (r ≡ r′) × (lows′ ≡ lows″) × (highs′ ≡ highs″)

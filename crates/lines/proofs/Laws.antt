@@ -126,7 +126,7 @@ unfolding rowsAt
 rows-end text width zero l i p = refl
 rows-end text width (suc k) l i p = absurd (omega arith)
 
--- one row more is stored
+-- one row more is stored: the same as with a number, but what is stored is a list of any width
 pub rows-alike-more :
     (t : Table) (out : List ℕ) (from : ℕ) (u : Table) (out′ : List ℕ) (put width : ℕ) (row : List ℕ) (rest : Table) (out″ : List ℕ) →
     AlikeRows t out from u out′ put → u ≡ above row rest → length row ≡ width → out″ ≡ sets out′ put row

@@ -168,6 +168,7 @@ module _ (n c j t count : ℕ) (tree matrix left right path lows₀ highs₀ len
               known-on b (same-equal b (climb tree i t) (omega (arith, one-child, same-apart a (climb tree i t) e))),
             )
 
+    -- filled field by field from what the path asks, as `descents` does from what a descent asks: the two ask different things
     readable : (d bound : ℕ) → 1 ≤ d → d ≤ length tree → Known d bound → Readable n c j d matrix lows highs
     readable d bound p q K =
         record {

@@ -42,7 +42,8 @@ otherOf v a b = choose (ℕ-discrete a v) b a
 abbrev pub aboveOf : (n : ℕ) (lows highs : List ℕ) → ℕ → ordered.Range
 aboveOf n lows highs v = span (atNode n lows v) (atNode n highs v)
 
--- the node v is interior, and it is known what its ancestor sees from above
+-- the node v is interior, and it is known what its ancestor sees from above; asked in full, as by the records of `descents` and `mending`, so that none has
+-- to be read for another
 pub record Seeing (n c j ρ δ v : ℕ) (tree matrix left right lows highs above-lows above-highs : List ℕ) : Type 0 where
   pub sized : Sized n tree
   pub accepted : Accepted n tree ρ δ

@@ -131,7 +131,7 @@ module _ (n c : ℕ) (tree matrix : List ℕ) (T : Table) (r : ℕ) (O : LengthO
       go (length′.Length k) A S = absurd (no-number-above r k S l)
       go (length′.Refused q) h S = subst (Refuses (lengthChecks n c tree matrix T)) (refusal-said r q S) h
 
--- ---- one kept character
+-- ---- one kept character: by the cases of its answer, as for a correction, whose enum is another
 
 module _ (n c j : ℕ) (tree matrix : List ℕ) (T : Table) (lows highs lows′ highs′ : List ℕ) (r : ℕ)
     (O : KeptOutcome n c j tree matrix T lows highs lows′ highs′ r) where

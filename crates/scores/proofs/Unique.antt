@@ -85,6 +85,7 @@ module _ (n : ℕ) (state : ℕ → ℕ) (tree : List ℕ) (ρ δ : ℕ) (A : Ac
         one-ordered-final n (cells n state) tree v _ _ _ _ (M .finals .fits v lo hi) (M′ .finals .fits v lo hi) (M .finals .means v lo hi)
         (M′ .finals .means v lo hi)
 
+    -- list by list, each from what is said of its own entries
     first-lows : r .first-lows ≡ r′ .first-lows
     first-lows = same-entries n tree _ _ nodes (M .long .first-lows) (M′ .long .first-lows) (λ v lo hi. entry v lo hi .0)
 

@@ -49,6 +49,7 @@ module _ (n c t j : ℕ) (tree matrix lows highs lengths : List ℕ) (G : Correc
       ∙ take-append-drop ((j - 1) * w) entries
 
   module _ (s : ℕ) (matrix′ pl ph ps : List ℕ) where
+    -- the three lists with the stretch put back
     abbrev L : List ℕ
     L = withStretch (n - 2) lows j pl
 

@@ -92,6 +92,7 @@ module _ (n c ρ δ : ℕ) (left right matrix : List ℕ) where
         takes-all = (part-takes lows in-lows, part-takes highs in-highs, part-takes lengths in-lengths)
 
       module _ (pl ph ps : List ℕ) (T : TakenAll n w (i + 1) bl bh bs pl ph ps) where
+        -- the three lists with the stretch written
         abbrev L : List ℕ
         L = withStretch (n - 2) lows j pl
 

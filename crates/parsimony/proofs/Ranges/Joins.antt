@@ -155,6 +155,7 @@ atMost-min t a b = go (decLe a b)
     go (yes h) = rw (min-eq-left h) (sym (max-eq-left (atMost-rise t a b h)))
     go (no h) = let k : b ≤ a = omega arith in rw (min-eq-right k) (sym (max-eq-right (atMost-rise t b a k)))
 
+-- and its mirror
 atMost-max : (t a b : ℕ) → atMost t (max a b) ≡ min (atMost t a) (atMost t b)
 atMost-max t a b = go (decLe a b)
   where
