@@ -4,7 +4,7 @@ ghost use Prim.Native.Nat.{min};
 use numbers::Parsed;
 
 // A number, and the position after the byte that follows it.
-pub struct Number {
+pub(crate) struct Number {
     pub value: u16,
     pub next: usize,
 }
@@ -15,7 +15,7 @@ fn after(text: &[u8], at: usize) -> usize {
 }
 
 // The number at a position. What is no number is read as 0, and ends the text.
-pub fn next_number(text: &[u8], at: usize) -> Number {
+pub(crate) fn next_number(text: &[u8], at: usize) -> Number {
     let got = numbers::number(text, at);
     match got {
         Parsed::Bad => Number {
@@ -30,7 +30,7 @@ pub fn next_number(text: &[u8], at: usize) -> Number {
 }
 
 // Fills a list with the numbers from a position on, and answers the position after them.
-pub fn read_list(text: &[u8], at: usize, list: &mut [u16]) -> usize {
+pub(crate) fn read_list(text: &[u8], at: usize, list: &mut [u16]) -> usize {
     let mut next = at;
     let mut k: usize = 0;
     while k < list.len() {
@@ -48,7 +48,7 @@ fn joined(above: u16, rest: u16) -> u32 {
 }
 
 // The same for lengths, of which each is two numbers.
-pub fn read_lengths(text: &[u8], at: usize, list: &mut [u32]) -> usize {
+pub(crate) fn read_lengths(text: &[u8], at: usize, list: &mut [u32]) -> usize {
     let mut next = at;
     let mut k: usize = 0;
     while k < list.len() {
@@ -62,7 +62,7 @@ pub fn read_lengths(text: &[u8], at: usize, list: &mut [u32]) -> usize {
 }
 
 // The smaller of two numbers.
-pub fn least(a: usize, b: usize) -> usize
+pub(crate) fn least(a: usize, b: usize) -> usize
     ensures { λ r. ⌜ r ≡ min a b ⌝ }
 {
     if a < b { a } else { b }

@@ -20,7 +20,7 @@ fn put_refusal(refusal: Refusal) {
 }
 
 // What building a table answered, after a name.
-pub fn put_built(name: &[u8], built: Built) {
+pub(crate) fn put_built(name: &[u8], built: Built) {
     io::write_all(STDOUT_FILENO, name);
     match built {
         Built::Done => {
@@ -31,7 +31,7 @@ pub fn put_built(name: &[u8], built: Built) {
 }
 
 // A length or a refusal, after a name.
-pub fn put_length(name: &[u8], length: Length) {
+pub(crate) fn put_length(name: &[u8], length: Length) {
     io::write_all(STDOUT_FILENO, name);
     match length {
         Length::Length(length) => put(b"length=", length as u64),
@@ -40,7 +40,7 @@ pub fn put_length(name: &[u8], length: Length) {
 }
 
 // What a correction answered.
-pub fn put_count(count: Count) {
+pub(crate) fn put_count(count: Count) {
     match count {
         Count::Rewritten(rewritten) => put(b"rewritten=", rewritten as u64),
         Count::Refused(refusal) => put_refusal(refusal),
@@ -85,7 +85,7 @@ fn state(x: u16) -> u32 {
 }
 
 // The digest of a list of states, after a name.
-pub fn put_digest(name: &[u8], values: &[u16]) {
+pub(crate) fn put_digest(name: &[u8], values: &[u16]) {
     let mut sum: u64 = 0;
     let mut k: usize = 0;
     while k < values.len() {
@@ -107,14 +107,14 @@ fn put_length_digest(name: &[u8], values: &[u32]) {
 }
 
 // The digests of a table.
-pub fn put_table(lows: &[u16], highs: &[u16], lengths: &[u32]) {
+pub(crate) fn put_table(lows: &[u16], highs: &[u16], lengths: &[u32]) {
     put_digest(b" lows=", lows);
     put_digest(b" highs=", highs);
     put_length_digest(b" lengths=", lengths);
 }
 
 // A table of at most 40 entries, in full.
-pub fn put_entries(lows: &[u16], highs: &[u16], lengths: &[u32]) {
+pub(crate) fn put_entries(lows: &[u16], highs: &[u16], lengths: &[u32]) {
     if lows.len() <= 40 {
         put_list(b"lows", lows);
         put_list(b"\nhighs", highs);
