@@ -1,5 +1,7 @@
 // An answer in C's way: one number, below 2^32 the answer and otherwise 2^32 times the number of the refusal and its place; and seven numbers in a
 // slice.
+#![tactic(auto)]
+
 ghost use Rattle.std.specs.Prelude.{◌≡◌, length, ◌<◌};
 ghost use Rattle.answers.specs.Coded as coded;
 ghost use Rattle.answers.specs.Coded.{limit, Gives};

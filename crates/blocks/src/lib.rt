@@ -1,5 +1,7 @@
 // The first pass, over several characters side by side: a block, whose lists the crate `rows` tells of. The whole subtree of a node is finished
 // before the node.
+#![tactic(auto)]
+
 ghost use Rattle.blocks.specs.Blocks.{Walkable, Walked};
 
 use refusals::wide;

@@ -1,4 +1,6 @@
 // What follows the first two lines of a text: the ancestors, the rows and the resolve line, read one after the other into a list.
+#![tactic(auto)]
+
 ghost use Rattle.std.specs.Prelude.{◌≡◌, true, ℕ, ◌≤◌, length, drop};
 ghost use Rattle.numbers.specs.Numbers.{starts_at};
 ghost use Rattle.forms.specs.Sheets.{Within, resolve_line};

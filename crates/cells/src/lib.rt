@@ -1,4 +1,6 @@
 // The cells of a matrix: the state of one, and the search for a state above 9999, in the whole matrix and in the cells of one character.
+#![tactic(auto)]
+
 ghost use Rattle.std.specs.Prelude.{ℕ, ◌*◌, ◌≤◌, ◌<◌, ◌≡◌, length};
 ghost use Rattle.refusals.specs.Search.{Finds};
 ghost use Rattle.parsimony.specs.Matrix.{state_of};

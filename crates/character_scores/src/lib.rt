@@ -1,4 +1,6 @@
 // What one character scores, once no check applies: the passes over it, one after the other.
+#![tactic(auto)]
+
 ghost use Rattle.parsimony.specs.Matrix.{state_of};
 ghost use Rattle.scores.specs.Scores.{CharacterMeans};
 ghost use Rattle.character_scores.specs.CharacterScores.{GivenOne};

@@ -1,4 +1,6 @@
 // One character afresh, and all characters afresh.
+#![tactic(auto)]
+
 ghost use Rattle.std.specs.Prelude.{◌≤◌};
 ghost use Rattle.characters.specs.Afresh.{six, OneAnswers, AllAnswers};
 ghost use Rattle.limits.specs.Limits.{Told};

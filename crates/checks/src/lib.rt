@@ -1,5 +1,7 @@
 // The checks that several calls share, once the sizes are in their limits, in the order of document 01: what is told of the slices (2), the tree
 // (3 to 6), the character (8) and its cells, or all cells (7).
+#![tactic(auto)]
+
 ghost use Rattle.std.specs.Prelude.{◌≡◌, ℕ, ◌*◌, ◌≤◌, ◌<◌, length};
 ghost use Rattle.limits.specs.Limits.{InLimits};
 ghost use Rattle.checks.specs.Calls.{Admissible, AdmitsCharacter, AdmitsMatrix, AdmitsCells, AdmitsAll};

@@ -1,4 +1,5 @@
 // The choice of document 01's resolve line: which of the two reconstructions is asked for.
+#![tactic(auto)]
 
 #[derive(Drop)]
 pub enum Resolve {

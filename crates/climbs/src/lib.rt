@@ -1,4 +1,6 @@
 // The search for a node whose ancestors never reach the root: refusal 6.
+#![tactic(auto)]
+
 ghost use Rattle.std.specs.Prelude.{◌≡◌, ℕ, ◌≤◌, ◌<◌, length};
 ghost use Rattle.climbs.specs.Climbs.{Climbable, FindsLost, Marked, Climbed};
 

@@ -1,4 +1,6 @@
 // One corrected cell, in the entries of its character alone: refusals 9 and 10, and then the cell and the entries on the path.
+#![tactic(auto)]
+
 ghost use Rattle.repairs.specs.Repairs.{Correctable};
 ghost use Rattle.corrections.specs.Corrections.{Corrects};
 

@@ -1,5 +1,7 @@
 // From the root down, for one character: the final ranges of a second pass. It goes over the interior nodes in an order in which every node stands
 // behind its ancestor, and takes the ranges of the pass before as they stand.
+#![tactic(auto)]
+
 ghost use Rattle.std.specs.Prelude.{◌≡◌, ℕ, ◌-◌, length};
 ghost use Rattle.shapes.specs.Shape.{Filled};
 ghost use Rattle.descents.specs.Descents.{Descends, Finals};

@@ -1,5 +1,7 @@
 // The functions that programs in other languages call. `include/badrumello.h` declares them for C: a slice is a pointer and its length there. Each
 // answers one number: below 2^32 it is the answer, and otherwise 2^32 times the number of the refusal and its place.
+#![tactic(auto)]
+
 ghost use Rattle.std.specs.Prelude.{◌≡◌, ◌≢◌, [], ◌∷◌, ◌++◌};
 ghost use Rattle.refusals.specs.Checks.{Refuses};
 ghost use Rattle.characters.specs.Afresh.{six};

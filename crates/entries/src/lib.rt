@@ -1,4 +1,6 @@
 // The search for kept entries that no pass leaves: refusal 10.
+#![tactic(auto)]
+
 ghost use Rattle.std.specs.Prelude.{◌≡◌, ℕ, ◌+◌, ◌-◌, ◌*◌, ◌≤◌, ◌<◌, length};
 ghost use Rattle.refusals.specs.Search.{Tells, Finds};
 ghost use Rattle.entries.specs.Entries.{Bad, BadAt, OneCharacter, AllCharacters, FindsEntry, Marks, Marked, Beside, BadMarked, Besides};

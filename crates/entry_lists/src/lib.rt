@@ -1,4 +1,6 @@
 // One character's entries out of a block, and its length: what a first pass over a block leaves, taken for one character.
+#![tactic(auto)]
+
 ghost use Rattle.std.specs.Prelude.{◌≡◌};
 ghost use Rattle.entry_lists.specs.EntryLists.{Takes, Taken, Ends, length_at};
 

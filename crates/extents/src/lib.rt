@@ -1,4 +1,6 @@
 // Sums of m and of g over all characters.
+#![tactic(auto)]
+
 ghost use Rattle.std.specs.Prelude.{◌≡◌, ◌≤◌};
 ghost use Rattle.parsimony.specs.Lists.{sum, from};
 ghost use Rattle.parsimony.specs.Matrix.{state_of};

@@ -1,4 +1,6 @@
 // The faults of a tree table beside the root's, that its entries show one by one: refusals 4 and 5, each with the search for its place.
+#![tactic(auto)]
+
 ghost use Rattle.std.specs.Prelude.{ℕ, ◌≤◌, length};
 ghost use Rattle.refusals.specs.Search.{Finds, Tells};
 ghost use Rattle.faults.specs.Faults.{StrayEntry, WrongCount};

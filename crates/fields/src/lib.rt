@@ -1,5 +1,7 @@
 // The lines of a report, one at a time, written into a lent slice: a key, a value, LF. Here the value is a number or an index; those that list the
 // interior nodes are in the crate `listings`.
+#![tactic(auto)]
+
 ghost use Rattle.std.specs.Prelude.{◌≡◌, ◌+◌, ◌≤◌, length};
 ghost use Rattle.numbers.specs.Printed.{decimal};
 ghost use Rattle.printing.specs.Writing.{Written};

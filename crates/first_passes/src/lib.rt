@@ -1,4 +1,6 @@
 // The first pass of one character: a block of one.
+#![tactic(auto)]
+
 ghost use Rattle.std.specs.Prelude.{◌≡◌, ◌-◌, length};
 ghost use Rattle.first_passes.specs.FirstPasses.{Given, Begun};
 

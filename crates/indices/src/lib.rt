@@ -1,4 +1,6 @@
 // The indices of a character or a tree: m and g from the states of one character, CI and RI from m, s and g.
+#![tactic(auto)]
+
 ghost use Rattle.std.specs.Prelude.{◌≡◌, ◌≤◌, pos};
 ghost use Rattle.parsimony.specs.Matrix.{state_of};
 ghost use Rattle.parsimony.specs.Ordered.{distance};

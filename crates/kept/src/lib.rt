@@ -1,4 +1,6 @@
 // The kept table: build it, correct a cell, and ask it for the tree's length.
+#![tactic(auto)]
+
 ghost use Rattle.std.specs.Prelude.{ℕ, ◌≤◌};
 ghost use Rattle.histories.specs.Kept.{Builds, Corrects, HasLengths};
 ghost use Rattle.kept.specs.Steps.{LendsTable, Wanted};

@@ -1,4 +1,6 @@
 // What a C caller is given of the kept table: for each answer of its calls one number.
+#![tactic(auto)]
+
 ghost use Rattle.answers.specs.Coded.{Tells};
 ghost use Rattle.kept_answers.specs.Replies.{of_built, of_count, of_length};
 

@@ -1,4 +1,6 @@
 // The kept table is asked for one character.
+#![tactic(auto)]
+
 ghost use Rattle.std.specs.Prelude.{ℕ};
 ghost use Rattle.histories.specs.Kept.{AnswersKept};
 

@@ -1,4 +1,6 @@
 // The lines of a report for one character, written into a lent slice.
+#![tactic(auto)]
+
 ghost use Rattle.std.specs.Prelude.{◌+◌, ◌≤◌, length};
 ghost use Rattle.layouts.specs.Report as text;
 ghost use Rattle.fields.specs.Fitting.{Fitting};

@@ -1,4 +1,6 @@
 // The limits of n and c, and the lengths of lent slices: refusals 1 and 2. Each slice is looked at by itself, from the last to the first.
+#![tactic(auto)]
+
 ghost use Rattle.refusals.specs.Search.{Tells};
 ghost use Rattle.limits.specs.Limits.{Outside, LentTo};
 

@@ -1,5 +1,7 @@
 // The lines of a sheet, each read at a position: a key, numbers with commas between, and LF. The numbers of a line, and of the rows one after
 // another, are stored in a lent list.
+#![tactic(auto)]
+
 ghost use Rattle.std.specs.Prelude.{◌≡◌, ℕ, ◌+◌, ◌*◌, ◌≤◌, ◌<◌, length};
 ghost use Rattle.lines.specs.Lines.{mark_of, values_at, head_at, line_at, rows_at, Stored, StoredRows};
 

@@ -1,4 +1,6 @@
 // The lines of a report that list the interior nodes, one at a time, written into a lent slice: a key, ranges or numbers with commas between, LF.
+#![tactic(auto)]
+
 ghost use Rattle.std.specs.Prelude.{◌≡◌, ◌+◌, ◌*◌, ◌≤◌, ◌<◌, length, drop};
 ghost use Rattle.numbers.specs.Printed.{commas};
 ghost use Rattle.printing.specs.Writing.{Written};

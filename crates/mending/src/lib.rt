@@ -1,4 +1,6 @@
 // A corrected cell: the entries of one character on the path from the taxon to the root are settled anew, from the taxon up.
+#![tactic(auto)]
+
 ghost use Rattle.std.specs.Prelude.{◌≡◌, ℕ, ◌-◌, ◌≤◌, ◌<◌, length};
 ghost use Rattle.parsimony.specs.Matrix.{state_of};
 ghost use Rattle.parsimony.specs.Character.{sizes};

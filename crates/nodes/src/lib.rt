@@ -1,4 +1,6 @@
 // One node and one character: the node's range, the range that it sees from above, and its final range.
+#![tactic(auto)]
+
 ghost use Rattle.std.specs.Prelude.{◌≡◌, ℕ};
 ghost use Rattle.nodes.specs.Nodes.{Readable, IsAt, other_of, Seeing, Seen, Finished, Finishing};
 

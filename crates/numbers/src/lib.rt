@@ -1,5 +1,7 @@
 // Bytes, numbers and keys of a text, each read at a position. A byte past the end counts as 0, which is no digit, so nothing has to be asked of
 // a position.
+#![tactic(auto)]
+
 ghost use Rattle.std.specs.Prelude.{◌≡◌, ℕ, ◌+◌, ◌≤◌, ◌<◌, length, get_or};
 ghost use Rattle.numbers.specs.Numbers.{digit_of, number_at, item_at, starts_at};
 

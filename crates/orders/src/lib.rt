@@ -1,4 +1,6 @@
 // An order of the interior nodes in which each stands behind its ancestor, from the lists of their descendants.
+#![tactic(auto)]
+
 ghost use Rattle.std.specs.Prelude.{◌≡◌, ℕ, ◌<◌, length};
 ghost use Rattle.orders.specs.Orders.{put_at, place_after, Orderable, Listed};
 

@@ -1,4 +1,6 @@
 // The first pass over a block of characters: the taxa's rows are loaded, and the tree is walked.
+#![tactic(auto)]
+
 ghost use Rattle.std.specs.Prelude.{◌≡◌, ◌≤◌, min};
 ghost use Rattle.passes.specs.Passes.{Loads, LoadedRow, Loaded, Passable, Passed};
 

@@ -1,4 +1,6 @@
 // The path from a node to the root: the interior nodes between them.
+#![tactic(auto)]
+
 ghost use Rattle.paths.specs.Paths.{Pathable, IsPath};
 
 use refusals::wide;

@@ -1,4 +1,6 @@
 // Text written into a lent slice, piece after piece: each function writes from a position on and returns the position after what it wrote.
+#![tactic(auto)]
+
 ghost use Rattle.std.specs.Prelude.{◌≡◌, ℕ, ◌+◌, ◌≤◌, ◌<◌, length};
 ghost use Rattle.numbers.specs.Printed.{decimal, commas};
 ghost use Rattle.printing.specs.Writing.{Written};

@@ -1,5 +1,7 @@
 // Ranges of states as numbers: the join of two, how far two are apart, the state of one nearest a state, and the final range of three.
 // Every layer above stands on these contracts, so they say what the paper means and nothing of how it is computed.
+#![tactic(auto)]
+
 ghost use Rattle.std.specs.Prelude.{◌≡◌, [], ◌∷◌, pos};
 ghost use Prim.Native.Nat.{ℕ, ◌≤◌};
 ghost use Rattle.parsimony.specs.Ordered as ordered;

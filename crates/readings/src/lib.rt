@@ -1,4 +1,6 @@
 // One kept character: its final ranges and its length, from its entries as they stand.
+#![tactic(auto)]
+
 ghost use Rattle.readings.specs.Readings.{Readable, Clean, IsRead, ReadsOr};
 
 use refusals::{Found, Refusal, wide};

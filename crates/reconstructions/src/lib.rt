@@ -1,5 +1,7 @@
 // From the root down, for one character: the states that are chosen. It goes over the interior nodes in an order in which every node stands behind its
 // ancestor, and takes ranges as they stand: those of the first pass, or the final ranges.
+#![tactic(auto)]
+
 ghost use Rattle.std.specs.Prelude.{◌≡◌, ℕ, ◌-◌, length};
 ghost use Rattle.descents.specs.Descents.{Descends};
 ghost use Rattle.reconstructions.specs.Reconstructions.{Choosing, ChosenAt, Chooses, list_of};

@@ -36,6 +36,7 @@ sure_slices i (s ∷ ss) = (sure_at 2 i (s.has ≢ s.asked), sure_slices (suc i)
 -- ---- one refusal
 
 pub one-refusal : (cs : List {1} Check) → AllSure cs → (r r' : Refusal) → Refuses cs r → Refuses cs r' → r ≡ r'
+one-refusal [] _ r r' x4 _ = elim x4 [ ]
 one-refusal (c ∷ cs) (s, ss) r r' (inl (e, h)) (inl (d, k)) = same (e ∙ sym d) (s r.place r'.place h k)
   where
     same : r.number ≡ r'.number → r.place ≡ r'.place → r ≡ r'
@@ -45,12 +46,14 @@ one-refusal (c ∷ cs) (s, ss) r r' (inr (n, h)) (inl (d, k)) = absurd (n r'.pla
 one-refusal (c ∷ cs) (s, ss) r r' (inr (n, h)) (inr (m, k)) = one-refusal cs ss r r' h k
 
 pub not_refused : (cs : List {1} Check) → Passes cs → (r : Refusal) → Refuses cs r → ⊥
+not_refused [] _ r x3 = elim x3 [ ]
 not_refused (c ∷ cs) (n, ns) r (inl (e, h)) = n r.place h
 not_refused (c ∷ cs) (n, ns) r (inr (m, h)) = not_refused cs ns r h
 
 -- ---- checks that follow others
 
 pub refuses_before : (cs ds : List {1} Check) (r : Refusal) → Refuses cs r → Refuses (cs ++ ds) r
+refuses_before [] ds r x' = elim x' [ ]
 refuses_before (c ∷ cs) ds r (inl h) = inl h
 refuses_before (c ∷ cs) ds r (inr (n, h)) = inr (n, refuses_before cs ds r h)
 

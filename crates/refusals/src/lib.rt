@@ -1,4 +1,6 @@
 // What every layer shares: a refusal with its number and place, the answer of a search for the lowest place, and a 16-bit number as a wider one.
+#![tactic(auto)]
+
 ghost use Rattle.std.specs.Prelude.{◌≡◌};
 
 // A refusal, by document 01's numbers: 1 to 12. The place is 0 where the document gives none.

@@ -1,4 +1,6 @@
 // The path of a corrected cell: what stands beside it is looked at, and then the cell is written and the path settled anew.
+#![tactic(auto)]
+
 ghost use Rattle.std.specs.Prelude.{◌*◌, ◌-◌};
 ghost use Rattle.refusals.specs.Search.{Finds};
 ghost use Rattle.entries.specs.Entries.{BadBeside};

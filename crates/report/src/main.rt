@@ -1,5 +1,7 @@
 // Reads a sheet on standard input, until its end or 32,769 bytes, and writes its report on standard output. A text of 32,769 bytes is too long, and
 // what follows is not read.
+#![tactic(auto)]
+
 use libc::{STDIN_FILENO, STDOUT_FILENO};
 use reports::ReportAnswer;
 

@@ -1,5 +1,7 @@
 // From a sheet's text to its report: one function from bytes to bytes. The sheet is read, all characters are scored, so that a state above 9999 is
 // named by the lowest cell of the whole matrix, and then each character is.
+#![tactic(auto)]
+
 ghost use Rattle.std.specs.Prelude.{◌≡◌, length};
 ghost use Rattle.reports.specs.Says.{Reports};
 ghost use Rattle.reports.specs.Steps.{Sized, Whole, Told};

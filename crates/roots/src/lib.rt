@@ -1,4 +1,6 @@
 // The root of a tree table: where it is, or where refusal 3 is; and the root's descendant.
+#![tactic(auto)]
+
 ghost use Rattle.std.specs.Prelude.{◌≡◌, ℕ, ◌≤◌, length};
 ghost use Rattle.parsimony.specs.Table.{ancestor};
 ghost use Rattle.roots.specs.Roots.{FindsRoot, Named};

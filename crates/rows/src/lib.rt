@@ -1,5 +1,7 @@
 // One interior node settled, for all characters of a block. A block has w characters, 8 at the most. Its three lists have a row for each node, taxa
 // among them, and in a row an entry for each character: the low end, the high end, and the length below the node.
+#![tactic(auto)]
+
 ghost use Rattle.rows.specs.Rows.{Placed, SettledAt, Settleable, SettledRow};
 
 use ranges::Range;

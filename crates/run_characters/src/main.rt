@@ -2,6 +2,8 @@
 // afterwards. A case is n, c, the character, 0 for ACCTRAN or 1 for DELTRAN, the lengths of the eight slices of `one_character`, the tree and the
 // matrix. Numbers are decimal, and one byte that is no digit follows each. A slice has 5000 entries at the most. Those that receive hold 60000, or
 // 4000000000, in each entry before the call.
+#![tactic(auto)]
+
 ghost use Rattle.std.specs.Prelude.{◌≡◌, ◌≤◌, min, length};
 
 use characters::Answer;

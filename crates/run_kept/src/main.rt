@@ -6,6 +6,8 @@
 // After a correction the table is built afresh beside it, and the tree length and the same character are asked of it. Buffers are written as
 // digests, and a table of at most 40 entries in full at the end. A slice has 2500 entries at the most. Before a table is built its entries are 11,
 // 13 and 17; slices that receive final ranges hold 60000 in each entry.
+#![tactic(auto)]
+
 mod reading;
 mod writing;
 

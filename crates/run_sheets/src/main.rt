@@ -1,6 +1,8 @@
 // Reads texts on standard input and writes what `read_sheet` answers of each, a line for a text, with a checksum of each lent slice afterwards. A
 // text follows a header of 18 bytes: the lengths of the tree slice (600 at the most), of the matrix slice (16,400) and of the text (40,000), each
 // at the front of 6 bytes. Each slice is filled with one number before the call, so that the checksum shows what was written.
+#![tactic(auto)]
+
 ghost use Rattle.std.specs.Prelude.{◌≡◌, ◌≤◌, min, length};
 
 use bodies::SheetAnswer;

@@ -1,5 +1,7 @@
 // Reads tree tables on standard input and writes what `accept_tree` answers of each, a line for a table. A table is its n, its number of entries
 // (600 at the most) and the entries; one byte that is no digit follows each number.
+#![tactic(auto)]
+
 ghost use Rattle.std.specs.Prelude.{◌≡◌, ◌≤◌, min, length};
 
 use libc::{STDIN_FILENO, STDOUT_FILENO};

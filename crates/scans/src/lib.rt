@@ -1,4 +1,6 @@
 // A text is scanned: its lines are read one after the other, and what they say goes to a list. Nothing that a user lends is written here.
+#![tactic(auto)]
+
 ghost use Rattle.std.specs.Prelude.{◌≡◌, length};
 ghost use Rattle.bodies.specs.Scanned.{Scanned};
 

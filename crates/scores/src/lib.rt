@@ -1,4 +1,6 @@
 // What a character or a tree scores; and what all characters score, once no check applies.
+#![tactic(auto)]
+
 ghost use Rattle.std.specs.Prelude.{◌≤◌};
 ghost use Rattle.scores.specs.Scores.{TreeScores};
 ghost use Rattle.totals.specs.Totals as totals;

@@ -1,4 +1,6 @@
 // The shape of an accepted table: the two descendants of each interior node.
+#![tactic(auto)]
+
 ghost use Rattle.std.specs.Prelude.{◌≡◌, ℕ, ◌+◌, ◌≤◌, ◌<◌};
 ghost use Rattle.shapes.specs.Shape.{Filled};
 ghost use Rattle.shapes.specs.Filling.{first_of, left_with, right_with, Fillable};

@@ -1,4 +1,6 @@
 // What a C caller is given of a sheet: one number, and n, c and the choice in a slice of three; and of its report.
+#![tactic(auto)]
+
 ghost use Rattle.std.specs.Prelude.{◌≡◌, ◌≢◌, length};
 ghost use Rattle.refusals.specs.Checks.{Refuses, slices};
 ghost use Rattle.answers.specs.Coded.{Tells};

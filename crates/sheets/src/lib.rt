@@ -1,4 +1,6 @@
 // A sheet's text to a tree and a matrix, or a refusal. The whole text is read before anything lent is written.
+#![tactic(auto)]
+
 ghost use Rattle.std.specs.Prelude.{◌≡◌, ◌++◌, ℕ, ◌+◌, ◌≤◌, length, take, drop};
 ghost use Rattle.sheets.specs.Answers.{Answers};
 ghost use Rattle.sheets.specs.Fills.{Fits, Fills};

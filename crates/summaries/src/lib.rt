@@ -1,4 +1,6 @@
 // The lines of a report for the tree, and the line of a refusal, written into a lent slice.
+#![tactic(auto)]
+
 ghost use Rattle.std.specs.Prelude.{◌+◌, ◌≤◌, length};
 ghost use Rattle.forms.specs.Sheets.{resolve_line};
 ghost use Rattle.summaries.specs.Report as text;

@@ -1,4 +1,6 @@
 // One corrected cell in a kept table: the stretch of its character is lent on from the middle of the whole.
+#![tactic(auto)]
+
 ghost use Rattle.table_corrections.specs.TableCorrections.{CorrectsIn, CorrectableIn};
 
 use corrections::Count;

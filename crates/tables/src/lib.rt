@@ -1,4 +1,6 @@
 // Builds the kept table of a matrix: the first pass of every character, each into its own stretch.
+#![tactic(auto)]
+
 ghost use Rattle.tables.specs.Tables.{TableLong, TableMeans, TakenAll, Takes, BuiltTo, Builds};
 ghost use Rattle.totals.specs.Totals.{Given};
 ghost use Rattle.entry_lists.specs.EntryLists as lists;

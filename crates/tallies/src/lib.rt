@@ -1,4 +1,6 @@
 // Lengths from kept entries: that of one character, and the sum over all.
+#![tactic(auto)]
+
 ghost use Rattle.tallies.specs.Tallies.{HasTop, IsLength, AllSound, IsTotal, Totals, SumsOr};
 
 use refusals::{Found, Refusal, long};

@@ -1,4 +1,6 @@
 // The length of the tree: the sum of the lengths of all characters.
+#![tactic(auto)]
+
 ghost use Rattle.std.specs.Prelude.{◌≡◌};
 ghost use Rattle.totals.specs.Totals.{Given, HasLength, GivenBlocks, LengthIn, Adds, added};
 

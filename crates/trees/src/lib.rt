@@ -1,4 +1,6 @@
 // Tree tables: which are accepted and which are refused, and where.
+#![tactic(auto)]
+
 ghost use Rattle.std.specs.Prelude.{◌≡◌, ℕ, ◌≤◌};
 ghost use Rattle.roots.specs.Roots.{IsRoot};
 ghost use Rattle.trees.specs.Answers.{Sized, Checks, Answers};

@@ -1,4 +1,6 @@
 // The lines for the characters of a report: each is scored, and its lines are written, one after another.
+#![tactic(auto)]
+
 ghost use Rattle.std.specs.Prelude.{◌+◌, ◌-◌, ◌*◌, ◌≤◌, length};
 ghost use Rattle.scores.specs.Scores.{AllLong};
 ghost use Rattle.layouts.specs.Rooms.{character_room};
