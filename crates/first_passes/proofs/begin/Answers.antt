@@ -13,5 +13,5 @@ returns c =
     begun _ _ _ _ _ c.args.left.now c.args.right.now c.args.matrix.now
     c.requires.0 c.first_pass.new.lows
     c.first_pass.new.highs c.first_pass.new.lengths c.first_pass.ensures _ _ _
-    c.Take-ends.ensures c.take_ends-2.ensures
+    c.take_ends.ensures c.take_ends-2.ensures
     c.take_lengths.ensures _ c.length_of.ensures
