@@ -12,14 +12,14 @@ use lines::{Line, Rows};
 use refusals::Refusal;
 
 // What a text is: a sheet, with n, c and the resolve choice, or refused.
-#[derive(Drop)]
+#[derive(Clone, Copy)]
 pub enum SheetAnswer {
     Read(u16, u16, Resolve),
     Refused(Refusal),
 }
 
 // What stands after the rows: nothing, the resolve line and nothing more, or something else, at a line that is not in form.
-#[derive(Drop)]
+#[derive(Clone, Copy)]
 enum Ending {
     Nothing,
     Choice(Resolve),

@@ -12,7 +12,7 @@ use refusals::Refusal;
 use scores::Scores;
 
 // The scores, or a refusal.
-#[derive(Drop)]
+#[derive(Clone, Copy)]
 pub enum Answer {
     Scores(Scores),
     Refused(Refusal),

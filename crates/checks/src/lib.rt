@@ -11,7 +11,7 @@ use refusals::{Found, Refusal};
 use trees::TreeAnswer;
 
 // Whether a call goes on, with the root of the tree and the root's descendant, or is refused.
-#[derive(Drop)]
+#[derive(Clone, Copy)]
 pub enum Admission {
     Admitted(u16, u16),
     Refused(Refusal),

@@ -1,7 +1,7 @@
 // The choice of document 01's resolve line: which of the two reconstructions is asked for.
 #![tactic(auto)]
 
-#[derive(Drop)]
+#[derive(Clone, Copy)]
 pub enum Resolve {
     Acctran,
     Deltran,

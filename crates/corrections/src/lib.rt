@@ -7,7 +7,7 @@ ghost use Rattle.corrections.specs.Corrections.{Corrects};
 use refusals::{Found, Refusal};
 
 // How many interior entries a correction rewrote, or a refusal.
-#[derive(Drop)]
+#[derive(Clone, Copy)]
 pub enum Count {
     Rewritten(u32),
     Refused(Refusal),

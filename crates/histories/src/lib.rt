@@ -5,7 +5,7 @@
 use refusals::Refusal;
 
 // The table is built, or a refusal.
-#[derive(Drop)]
+#[derive(Clone, Copy)]
 pub enum Built {
     Done,
     Refused(Refusal),

@@ -10,7 +10,7 @@ ghost use Rattle.indices.specs.Indices.{index_of, Readable};
 use cells::state_of;
 
 // An index: a fraction, over and under, or none.
-#[derive(Drop)]
+#[derive(Clone, Copy)]
 pub enum Index {
     Fraction(u32, u32),
     None,

@@ -5,7 +5,7 @@ ghost use Rattle.refusals.specs.Search.{Tells};
 ghost use Rattle.limits.specs.Limits.{Outside, LentTo};
 
 // Whether each of the slices lent to a call has the length that is asked, or which is the first that has not.
-#[derive(Drop)]
+#[derive(Clone, Copy)]
 pub enum Lent {
     Exact,
     Wrong(u32),

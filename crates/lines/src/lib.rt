@@ -8,14 +8,14 @@ ghost use Rattle.lines.specs.Lines.{mark_of, values_at, head_at, line_at, rows_a
 use numbers::Parsed;
 
 // The position after a line in form.
-#[derive(Drop)]
+#[derive(Clone, Copy)]
 pub enum Line {
     Good(usize),
     Bad,
 }
 
 // The position after all rows, or the number of the first line that is not in form.
-#[derive(Drop)]
+#[derive(Clone, Copy)]
 pub enum Rows {
     All(usize),
     Wrong(u32),

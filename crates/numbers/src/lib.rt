@@ -6,7 +6,7 @@ ghost use Rattle.std.specs.Prelude.{◌≡◌, ℕ, ◌+◌, ◌≤◌, ◌<◌,
 ghost use Rattle.numbers.specs.Numbers.{digit_of, number_at, item_at, starts_at};
 
 // A number below 65536 and the position after it.
-#[derive(Drop)]
+#[derive(Clone, Copy)]
 pub enum Parsed {
     Value(u16, usize),
     Bad,

@@ -8,7 +8,7 @@ ghost use Rattle.parsimony.specs.Ordered as ordered;
 ghost use Rattle.ranges.specs.Ranges.{range_of, IsRange, Joined};
 
 // The states from low to high, both among them.
-#[derive(Drop)]
+#[derive(Clone, Copy)]
 pub struct Range {
     pub low: u16,
     pub high: u16,

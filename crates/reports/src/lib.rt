@@ -12,7 +12,7 @@ use choices::Resolve;
 use refusals::Refusal;
 
 // How many bytes were written; or a refusal, if the slice has another length than 524,288.
-#[derive(Drop)]
+#[derive(Clone, Copy)]
 pub enum ReportAnswer {
     Written(usize),
     Refused(Refusal),

@@ -8,7 +8,7 @@ ghost use Rattle.roots.specs.Roots.{FindsRoot, Named};
 use refusals::wide;
 
 // Where the root is: at a taxon, or the lowest 0 entry that is interior or follows another 0, or nowhere.
-#[derive(Drop)]
+#[derive(Clone, Copy)]
 pub enum Root {
     At(usize),
     Stray(usize),

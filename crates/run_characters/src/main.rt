@@ -17,7 +17,7 @@ use scores::Scores;
 // ---- reading
 
 // A number, and the position after the byte that follows it.
-#[derive(Drop)]
+#[derive(Clone, Copy)]
 struct Number {
     value: u16,
     next: usize,

@@ -4,7 +4,7 @@ ghost use Rattle.std.specs.Prelude.{◌≡◌, min};
 use numbers::Parsed;
 
 // A number, and the position after the byte that follows it.
-#[derive(Drop)]
+#[derive(Clone, Copy)]
 pub(crate) struct Number {
     pub value: u16,
     pub next: usize,

@@ -10,7 +10,7 @@ use refusals::wide;
 use trees::TreeAnswer;
 
 // A number, and the position after the byte that follows it.
-#[derive(Drop)]
+#[derive(Clone, Copy)]
 struct Number {
     value: u16,
     next: usize,

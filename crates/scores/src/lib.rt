@@ -10,7 +10,7 @@ use indices::Index;
 use refusals::wide;
 
 // What a character or a tree scores: its length, m, g, and its indices.
-#[derive(Drop)]
+#[derive(Clone, Copy)]
 pub struct Scores {
     pub length: u32,
     pub m: u32,

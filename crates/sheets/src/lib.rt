@@ -8,7 +8,7 @@ ghost use Rattle.sheets.specs.Fills.{Fits, Fills};
 use bodies::SheetAnswer;
 
 // How many entries of the tree and cells of the matrix an answer fills.
-#[derive(Drop)]
+#[derive(Clone, Copy)]
 struct Filled {
     nodes: usize,
     cells: usize,

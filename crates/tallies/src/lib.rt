@@ -6,7 +6,7 @@ ghost use Rattle.tallies.specs.Tallies.{HasTop, IsLength, AllSound, IsTotal, Tot
 use refusals::{Found, Refusal, long};
 
 // A length, or a refusal.
-#[derive(Drop)]
+#[derive(Clone, Copy)]
 pub enum Length {
     Length(u32),
     Refused(Refusal),

@@ -8,7 +8,7 @@ ghost use Rattle.trees.specs.Answers.{Sized, Checks, Answers};
 use refusals::{Found, Refusal};
 
 // What a tree table is: accepted, with its root and the root's descendant, or refused.
-#[derive(Drop)]
+#[derive(Clone, Copy)]
 pub enum TreeAnswer {
     Accepted(u16, u16),
     Refused(Refusal),
