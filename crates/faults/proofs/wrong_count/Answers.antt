@@ -1,0 +1,5 @@
+use Rattle.faults.proofs.Counting.{cleared}
+use Rattle.faults.proofs.wrong_count.Goals as goal
+
+pub count_descendants-requires : goal.count_descendants-requires
+count_descendants-requires c = (c.requires.0, cleared)
