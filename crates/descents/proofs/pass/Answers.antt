@@ -5,7 +5,7 @@ pub see-above-requires : goal.see-above-requires
 see-above-requires c =
     seeing_at _ _ _ _ _ c.args.tree.now c.args.matrix.now c.args.order.now
     c.args.lows.now c.args.highs.now c.requires.0
-    c.loop-i.i c.loop-i.above-lows c.loop-i.above-highs
+    c.loop-i.i c.loop-i.above_lows c.loop-i.above_highs
     c.loop-i.final_lows c.loop-i.final_highs c.loop-i.invariant
     c.loop-i-test.true c.args.left.now c.args.right.now
     c.requires.1 _ c.wide-node.ensures
@@ -14,8 +14,8 @@ pub finish-requires : goal.finish-requires
 finish-requires c =
     finishing_at _ _ _ _ _ c.args.tree.now c.args.matrix.now
     c.args.order.now c.args.lows.now c.args.highs.now
-    c.requires.0 c.loop-i.i c.loop-i.above-lows
-    c.loop-i.above-highs c.loop-i.final_lows c.loop-i.final_highs
+    c.requires.0 c.loop-i.i c.loop-i.above_lows
+    c.loop-i.above_highs c.loop-i.final_lows c.loop-i.final_highs
     c.loop-i.invariant c.loop-i-test.true c.args.left.now
     c.args.right.now c.requires.1 _ c.wide-node.ensures _
     c.see-above.ensures.fits
@@ -24,8 +24,8 @@ pub loop-i-preserved : goal.loop-i-preserved
 loop-i-preserved c =
     turned_at _ _ _ _ _ c.args.tree.now c.args.matrix.now
     c.args.order.now c.args.lows.now c.args.highs.now
-    c.requires.0 c.loop-i.i c.loop-i.above-lows
-    c.loop-i.above-highs c.loop-i.final_lows c.loop-i.final_highs
+    c.requires.0 c.loop-i.i c.loop-i.above_lows
+    c.loop-i.above_highs c.loop-i.final_lows c.loop-i.final_highs
     c.loop-i.invariant c.loop-i-test.true c.args.left.now
     c.args.right.now c.requires.1 _ c.wide-node.ensures _
     c.see-above.ensures _ _ c.finish.ensures
@@ -33,5 +33,5 @@ loop-i-preserved c =
 pub returns : goal.returns
 returns c =
     passed_all _ _ _ _ _ c.args.tree.now c.args.matrix.now c.args.order.now
-    c.args.lows.now c.args.highs.now c.requires.0 _ c.loop-i.above-lows
-    c.loop-i.above-highs c.loop-i.final_lows c.loop-i.final_highs c.loop-i.invariant c.loop-i-test.false
+    c.args.lows.now c.args.highs.now c.requires.0 _ c.loop-i.above_lows
+    c.loop-i.above_highs c.loop-i.final_lows c.loop-i.final_highs c.loop-i.invariant c.loop-i-test.false
