@@ -41,23 +41,47 @@ results c =
 -- the root and its descendant, as wider numbers
 given-wide : (c : After-wide-top) → GivenOne c.args.n c.args.c c.args.character
     c.wide-root.result c.wide-top.result c.args.tree.now c.args.matrix.now
-    ((record { first_lows = c.args.first_lows.now; first_highs = c.args.first_highs.now; subtree = c.args.subtree.now; final_lows = c.args.final_lows.now; final_highs = c.args.final_highs.now; states = c.args.states.now; }))
+    (record {
+      first_lows = c.args.first_lows.now;
+      first_highs = c.args.first_highs.now;
+      subtree = c.args.subtree.now;
+      final_lows = c.args.final_lows.now;
+      final_highs = c.args.final_highs.now;
+      states = c.args.states.now;
+    })
 given-wide c = rw c.wide-root.ensures (rw c.wide-top.ensures c.requires)
 
 turns : (c : After-wide-top) → IsOrder c.args.n c.args.tree.now c.wide-top.result
     c.order.new.order
 turns c =
     rw c.wide-top.ensures (c.order.ensures c.args.tree.now _
-    (orders _ _ _ _ _ c.args.tree.now c.args.matrix.now ((record { first_lows = c.args.first_lows.now; first_highs = c.args.first_highs.now; subtree = c.args.subtree.now; final_lows = c.args.final_lows.now; final_highs = c.args.final_highs.now; states = c.args.states.now; }))
+    (orders _ _ _ _ _ c.args.tree.now c.args.matrix.now (record {
+      first_lows = c.args.first_lows.now;
+      first_highs = c.args.first_highs.now;
+      subtree = c.args.subtree.now;
+      final_lows = c.args.final_lows.now;
+      final_highs = c.args.final_highs.now;
+      states = c.args.states.now;
+    })
     c.requires c.descendants.new.left c.descendants.new.right
     c.descendants.ensures))
 
-begun-in : (c : After-begin-length) → BegunIn c.args.n c.args.c c.args.character
+begun-in : (c : After-begin-length)
+    → GivenOne c.args.n c.args.c c.args.character c.wide-root.result c.wide-top.result c.args.tree.now c.args.matrix.now
+    (record {
+      first_lows = c.args.first_lows.now;
+      first_highs = c.args.first_highs.now;
+      subtree = c.args.subtree.now;
+      final_lows = c.args.final_lows.now;
+      final_highs = c.args.final_highs.now;
+      states = c.args.states.now;
+    })
+    → BegunIn c.args.n c.args.c c.args.character
     c.args.tree.now c.args.matrix.now c.begin-length.new.lows
     c.begin-length.new.highs c.begin-length.new.lengths c.begin-length.result
-begun-in c =
+begun-in c G =
     c.begin-length.ensures c.args.tree.now (orders _ _ _ _ _ c.args.tree.now
-    c.args.matrix.now ((record { first_lows = c.args.first_lows.now; first_highs = c.args.first_highs.now; subtree = c.args.subtree.now; final_lows = c.args.final_lows.now; final_highs = c.args.final_highs.now; states = c.args.states.now; })) ((rw c.wide-root.ensures (rw c.wide-top.ensures c.requires)))
+    c.args.matrix.now _ G
     c.descendants.new.left c.descendants.new.right
     c.descendants.ensures)
 
@@ -69,8 +93,8 @@ reconstruct-requires c = (
   descends _ _ _ _ _ c.args.tree.now c.args.matrix.now
       (lists (goal.at.reconstruct-requires c).Start) (given-wide (goal.at.reconstruct-requires c).After-wide-top) c.order.new.order
       c.begin-length.new.lows c.begin-length.new.highs
-      (turns (goal.at.reconstruct-requires c).After-wide-top) (begun-in (goal.at.reconstruct-requires c).After-begin-length).low_long (begun-in (goal.at.reconstruct-requires c).After-begin-length).high_long
-      (begun-in (goal.at.reconstruct-requires c).After-begin-length).fits,
+      (turns (goal.at.reconstruct-requires c).After-wide-top) (begun-in (goal.at.reconstruct-requires c).After-begin-length (given-wide (goal.at.reconstruct-requires c).After-wide-top)).low_long (begun-in (goal.at.reconstruct-requires c).After-begin-length (given-wide (goal.at.reconstruct-requires c).After-wide-top)).high_long
+      (begun-in (goal.at.reconstruct-requires c).After-begin-length (given-wide (goal.at.reconstruct-requires c).After-wide-top)).fits,
   descends _ _ _ _ _ c.args.tree.now
       c.args.matrix.now (lists (goal.at.reconstruct-requires c).Start) (given-wide (goal.at.reconstruct-requires c).After-wide-top)
       c.order.new.order c.final_ranges.new.final_lows c.final_ranges.new.final_highs (turns (goal.at.reconstruct-requires c).After-wide-top)
@@ -96,6 +120,6 @@ returns c =
     c.args.character) c.args.tree.now ρ c.args.resolve
     (results (goal.at.returns c).After-reconstruct) c.score.result) c.wide-root.ensures
     (means _ _ _ _ _ c.args.tree.now c.args.matrix.now (lists (goal.at.returns c).Start)
-    (results (goal.at.returns c).After-reconstruct) (given-wide (goal.at.returns c).After-wide-top) _ (begun-in (goal.at.returns c).After-begin-length)
+    (results (goal.at.returns c).After-reconstruct) (given-wide (goal.at.returns c).After-wide-top) _ (begun-in (goal.at.returns c).After-begin-length (given-wide (goal.at.returns c).After-wide-top))
     c.final_ranges.ensures _ c.reconstruct.ensures _ _ _ c.long-m.ensures
     c.m.ensures c.g-g.ensures _ c.score.ensures)
