@@ -20,7 +20,7 @@ def rows(text):
 
 
 def has_name(text, name):
-    return re.search(r"(?<![\w·-])" + re.escape(name) + r"(?![\w′-])", text) is not None
+    return re.search(r"(?<![\w·-])" + re.escape(name) + r"(?![\w'-])", text) is not None
 
 
 documents = [root / "README.md"] + sorted((root / "docs").rglob("*.md"))
@@ -57,7 +57,7 @@ for number, cells in rows(text):
 for name in sorted(edits - named):
     faults.append(f"docs/THEOREMS.md: no row names the edit {name}")
 
-listed = re.findall(r"^(\w+):", (root / "crates.txt").read_text(encoding="utf-8"), re.M)
+listed = re.findall(r"^(\w+)(?: staticlib)?:", (root / "crates.txt").read_text(encoding="utf-8"), re.M)
 for name in listed:
     if not re.search(rf"^\| [^|]*`{name}`", (root / "README.md").read_text(encoding="utf-8"), re.M):
         faults.append(f"README.md: the map has no crate {name}")

@@ -1,5 +1,5 @@
 #!/usr/bin/env python3
-"""Random and damaged sheets through the built program, target/bin/report, compared with tests/reference_report.py byte for byte.
+"""Random and damaged sheets through the built program, crates/report/out/report, compared with tests/reference_report.py byte for byte.
 
 The seed is fixed. The whole run has a time limit, and each run of the program has one: no text is too much for it. At least so many texts have to be
 compared, reports and refusals of each number among them, so that an empty run is no success.

@@ -5,7 +5,7 @@ The expected reports are those of tests/reference_report.py, which shares nothin
 built program with them, byte for byte. Each refusal that a sheet can give has a sample, and so have both choices. The handout, wherever it is shown, is
 document 01's.
 
-    python3 tests/samples.py            tries target/bin/report
+    python3 tests/samples.py            tries crates/report/out/report
     python3 tests/samples.py --write    writes the samples and their reports
 """
 import pathlib
@@ -18,7 +18,7 @@ from cases_sheets import HANDOUT_SHEET, sheet_text
 
 ROOT = pathlib.Path(__file__).resolve().parent.parent
 SAMPLES = ROOT / "samples"
-PROGRAM = ROOT / "target" / "bin" / "report"
+PROGRAM = ROOT / "crates" / "report" / "out" / "report"
 
 # document 01's report on its own sheet, to the letter, and what its sheet says of DELTRAN
 DOCUMENT = b"""taxa=4

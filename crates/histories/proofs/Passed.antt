@@ -131,6 +131,7 @@ Numbered P (c ∷ cs) = P c.number × Numbered P cs
 
 -- so has a refusal by one of them
 refused-number : (P : ℕ → Type 0) (cs : List {1} Check) → Numbered P cs → (r : Refusal) → Refuses cs r → P r.number
+refused-number P [] _ r x3 = elim x3 [ ]
 refused-number P (c ∷ cs) (p, ps) r (inl (e, h)) = subst P (sym e) p
 refused-number P (c ∷ cs) (p, ps) r (inr (n, h)) = refused-number P cs ps r h
 

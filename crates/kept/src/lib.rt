@@ -43,8 +43,8 @@ pub fn build(
     lengths: &mut [u32],
 ) -> Built
     ensures { Builds n c tree.now matrix.now
-        (record { lows = lows.entry.now; highs = highs.old; lengths = lengths.old })
-        (record { lows = lows.exit.now; highs = highs.new; lengths = lengths.new }) result }
+        (record { lows = lows.old; highs = highs.old; lengths = lengths.old })
+        (record { lows = lows.new; highs = highs.new; lengths = lengths.new }) result }
 {
     if limits::outside(n, c) {
         return Built::Refused(Refusal {
@@ -106,9 +106,9 @@ pub fn correct(
     lengths: &mut [u32],
 ) -> Count
     ensures { Corrects n c taxon character state tree.now matrix.old
-        (record { lows = lows.entry.now; highs = highs.old; lengths = lengths.old })
+        (record { lows = lows.old; highs = highs.old; lengths = lengths.old })
         matrix.new
-        (record { lows = lows.exit.now; highs = highs.new; lengths = lengths.new }) result }
+        (record { lows = lows.new; highs = highs.new; lengths = lengths.new }) result }
 {
     if limits::outside(n, c) {
         return Count::Refused(Refusal {
@@ -142,7 +142,7 @@ pub fn kept_length(
     lengths: &[u32],
 ) -> Length
     ensures { HasLengths n c tree.now matrix.now
-        (record { lows = lows.entry.now; highs = highs.now; lengths = lengths.now }) result }
+        (record { lows = lows.now; highs = highs.now; lengths = lengths.now }) result }
 {
     if limits::outside(n, c) {
         return Length::Refused(Refusal {

@@ -24,7 +24,7 @@ pub fn kept_character(
     final_highs: &mut [u16],
 ) -> Length
     ensures { AnswersKept n c character tree.now matrix.now
-        (record { lows = lows.entry.now; highs = highs.now; lengths = lengths.now })
+        (record { lows = lows.now; highs = highs.now; lengths = lengths.now })
         final_lows.old final_highs.old final_lows.new final_highs.new result }
 {
     if limits::outside(n, c) {

@@ -33,6 +33,7 @@ module _ (t : Slice) (wrong : t.has ≢ t.asked) where
 
   -- one before it is wrong
   earlier_wrong : (i : ℕ) (ss : List Slice) (q : Refusal) → Refuses (slices i ss) q → Refuses (slices i (ss ++ (t ∷ []))) q
+  earlier_wrong i [] q x' = elim x' [ ]
   earlier_wrong i (s ∷ ss) q (inl h) = inl h
   earlier_wrong i (s ∷ ss) q (inr (n, h)) = inr (n, earlier_wrong (suc i) ss q h)
 

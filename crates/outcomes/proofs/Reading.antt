@@ -28,6 +28,7 @@ Numbered [] = Unit {0}
 Numbered (c ∷ cs) = (1 ≤ c.number) × Numbered cs
 
 pub numbered : (cs : List {1} Check) → Numbered cs → (q : Refusal) → Refuses cs q → 1 ≤ q.number
+numbered [] _ q x3 = elim x3 [ ]
 numbered (c ∷ cs) (n, ns) q (inl (e, h)) = omega (arith, e, n)
 numbered (c ∷ cs) (n, ns) q (inr (_, h)) = numbered cs ns q h
 

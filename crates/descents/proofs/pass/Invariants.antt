@@ -1,0 +1,11 @@
+-- `pass` takes one interior node after the other, in the order of the list. The invariant: what is written for the first i of them is the second
+-- pass. The turns that are left are the measure.
+use Prim.Native.Nat.{◌-◌}
+use Rattle.descents.proofs.Passing.{PassedTo}
+use Rattle.descents.proofs.pass.Given as goal
+
+abbrev pub invariant-loop-i : goal.invariant-loop-i
+invariant-loop-i l =     PassedTo l.n l.c l.character l.root l.top l.tree l.matrix l.order l.lows l.highs l.i l.above_lows l.above_highs l.final_lows l.final_highs
+
+abbrev pub decreases-loop-i : goal.decreases-loop-i
+decreases-loop-i l =     l.n - l.i

@@ -1,0 +1,26 @@
+use native.Mathlib.Omega.{arith}
+use mathlib.Core.Path.{◌≡◌}
+use Prim.Native.Nat.{◌+◌, ◌-◌, ◌*◌}
+use Rattle.tables.proofs.Building.{built-on}
+use Rattle.tables.proofs.take_block.Goals as goal
+use Rattle.tables.proofs.take_block.Goals.{In-loop-i}
+
+-- from one end of a stretch to the other
+wide : (c : In-loop-i) → (c.args.past + c.loop-i.i) * (c.args.n - 2) +
+    (c.args.n - 2) - (c.args.past + c.loop-i.i) * (c.args.n - 2)
+    ≡ c.args.n - 2
+wide c = omega arith
+
+pub loop-i-preserved : goal.loop-i-preserved
+loop-i-preserved c = (
+  omega (arith, c.loop-i-test.true),
+  built-on c.args.n c.args.c
+      c.args.root c.args.top c.args.left.now
+      c.args.right.now c.args.matrix.now c.args.past
+      c.args.w c.args.block_lows.now c.args.block_highs.now
+      c.args.block_lengths.now c.args.lows.now c.args.highs.now
+      c.args.lengths.now c.requires _ c.loop-i-test.true
+      c.loop-i.lows c.loop-i.highs c.loop-i.lengths
+      c.loop-i.invariant.1 _ _ _ c.take_character.ensures _
+      (wide (goal.at.loop-i-preserved c).In-loop-i),
+)
