@@ -2,28 +2,47 @@
 // what follows is not read.
 #![tactic(auto)]
 
-use libc::{STDIN_FILENO, STDOUT_FILENO};
+ghost use Rattle.std.specs.Prelude.{◌≡◌, length, take, IfSome, OnOk};
+ghost use Rattle.report.specs.Gains.{GainsReport};
+
 use reports::ReportAnswer;
+use std::io;
+use std::io::{Read, Write};
 
 // Writes the report on a text.
-fn write_report(text: &[u8], out: &mut [u8]) {
+fn write_report<W: Write>(text: &[u8], out: &mut [u8], output: &mut W) -> io::Result<()>
+    ensures { OnOk result (length out.old ≡ 524288 → GainsReport text.now (W.contents output.old) (W.contents output.new)) }
+{
     let got = reports::report(text, out);
     match got {
-        ReportAnswer::Written(size) => {
-            io::write_all(STDOUT_FILENO, &out[..size]);
-        }
-        ReportAnswer::Refused(refusal) => {} // not for a slice of 524,288 bytes
+        ReportAnswer::Written(size) => output.write_all(&out[..size]),
+        ReportAnswer::Refused(refusal) => Ok(()), // not for a slice of 524,288 bytes
     }
 }
 
 // Reads a text, and writes its report.
-fn answer(text: &mut [u8], out: &mut [u8]) {
-    let size = io::read_full(STDIN_FILENO, text);
-    write_report(&text[..size], out);
+fn answer<R: Read, W: Write>(
+    input: &mut R,
+    text: &mut [u8],
+    out: &mut [u8],
+    output: &mut W,
+) -> io::Result<()>
+    ensures { OnOk result (IfSome (R.remaining input.old) (λ sheet. length text.old ≡ 32769 → length out.old ≡ 524288
+        → GainsReport (take 32769 sheet) (W.contents output.old) (W.contents output.new))) }
+{
+    let size = inputs::read_full(input, text)?;
+    write_report(&text[..size], out, output)
 }
 
-fn main() {
+// Room for any report.
+fn report_room() -> [u8; 524288]
+    ensures { 524288 ≡ length result }
+{
+    [0; 524288]
+}
+
+fn main(rt: HostRuntime) -> io::Result<()> {
     let mut text = [0u8; 32769];
-    let mut out = [0u8; 524288];
-    answer(&mut text, &mut out);
+    let mut out = report_room();
+    answer(&mut rt.stdin(), &mut text, &mut out, &mut rt.stdout())
 }

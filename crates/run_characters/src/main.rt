@@ -9,10 +9,10 @@ ghost use Rattle.std.specs.Prelude.{◌≡◌, ◌≤◌, min, length};
 use characters::Answer;
 use choices::Resolve;
 use indices::Index;
-use libc::{STDIN_FILENO, STDOUT_FILENO};
 use numbers::Parsed;
 use refusals::wide;
 use scores::Scores;
+use std::io;
 
 // ---- reading
 
@@ -43,12 +43,10 @@ fn next_number(text: &[u8], at: usize) -> Number {
 
 fn read_list(text: &[u8], at: usize, list: &mut [u16]) -> usize {
     let mut next = at;
-    let mut k: usize = 0;
-    while k < list.len() {
-        let entry = next_number(text, next);
-        list[k] = entry.value;
-        next = entry.next;
-        k += 1;
+    for entry in list {
+        let number = next_number(text, next);
+        *entry = number.value;
+        next = number.next;
     }
     next
 }
@@ -61,66 +59,59 @@ fn least(a: usize, b: usize) -> usize
 
 // ---- writing
 
-fn put(name: &[u8], number: u64) {
-    io::write_all(STDOUT_FILENO, name);
-    io::print_decimal(STDOUT_FILENO, number);
+fn put(rt: &impl Print, name: &str, number: u64) -> io::Result<()> {
+    print!(rt; "{name}{number}")
 }
 
-fn put_index(name: &[u8], index: Index) {
+fn put_index(rt: &impl Print, name: &str, index: Index) -> io::Result<()> {
     match index {
         Index::Fraction(over, under) => {
-            put(name, over as u64);
-            put(b"/", under as u64);
+            put(rt, name, over as u64)?;
+            put(rt, "/", under as u64)
         }
-        Index::None => {
-            io::write_all(STDOUT_FILENO, name);
-            io::write_all(STDOUT_FILENO, b"none");
-        }
+        Index::None => print!(rt; "{name}none"),
     }
 }
 
-fn put_scores(scores: Scores) {
-    put(b"length=", scores.length as u64);
-    put(b" m=", scores.m as u64);
-    put(b" g=", scores.g as u64);
+fn put_scores(rt: &impl Print, scores: Scores) -> io::Result<()> {
+    put(rt, "length=", scores.length as u64)?;
+    put(rt, " m=", scores.m as u64)?;
+    put(rt, " g=", scores.g as u64)?;
     let ci = scores.ci;
-    put_index(b" ci=", ci);
+    put_index(rt, " ci=", ci)?;
     let ri = scores.ri;
-    put_index(b" ri=", ri);
+    put_index(rt, " ri=", ri)
 }
 
-fn put_answer(name: &[u8], answer: Answer) {
-    io::write_all(STDOUT_FILENO, name);
+fn put_answer(rt: &impl Print, name: &str, answer: Answer) -> io::Result<()> {
+    print!(rt; "{name}")?;
     match answer {
-        Answer::Scores(scores) => put_scores(scores),
+        Answer::Scores(scores) => put_scores(rt, scores),
         Answer::Refused(refusal) => {
-            put(b"refused=", refusal.number as u64);
-            put(b",", refusal.place as u64);
+            put(rt, "refused=", refusal.number as u64)?;
+            put(rt, ",", refusal.place as u64)
         }
     }
 }
 
-fn put_list(name: &[u8], values: &[u16]) {
-    io::write_all(STDOUT_FILENO, name);
-    let mut k: usize = 0;
-    while k < values.len() {
-        let value = wide(values[k]);
-        put(b" ", value as u64);
-        k += 1;
+fn put_list(rt: &impl Print, name: &str, values: &[u16]) -> io::Result<()> {
+    print!(rt; "{name}")?;
+    for value in values {
+        put(rt, " ", wide(*value) as u64)?;
     }
+    Ok(())
 }
 
 fn long(x: u32) -> u64 {
     x as u64
 }
 
-fn put_lengths(name: &[u8], values: &[u32]) {
-    io::write_all(STDOUT_FILENO, name);
-    let mut k: usize = 0;
-    while k < values.len() {
-        put(b" ", long(values[k]));
-        k += 1;
+fn put_lengths(rt: &impl Print, name: &str, values: &[u32]) -> io::Result<()> {
+    print!(rt; "{name}")?;
+    for value in values {
+        put(rt, " ", long(*value))?;
     }
+    Ok(())
 }
 
 // ---- rooms, of which a call is lent the beginnings
@@ -154,6 +145,7 @@ fn resolve_of(number: u16) -> Resolve {
 }
 
 fn put_one(
+    rt: &impl Print,
     answer: Answer,
     first_lows: &[u16],
     first_highs: &[u16],
@@ -161,17 +153,18 @@ fn put_one(
     final_lows: &[u16],
     final_highs: &[u16],
     states: &[u16],
-) {
-    put_answer(b"one ", answer);
-    put_list(b"\nfirst lows", first_lows);
-    put_list(b"\nfirst highs", first_highs);
-    put_lengths(b"\nsubtree lengths", subtree);
-    put_list(b"\nfinal lows", final_lows);
-    put_list(b"\nfinal highs", final_highs);
-    put_list(b"\nstates", states);
+) -> io::Result<()> {
+    put_answer(rt, "one ", answer)?;
+    put_list(rt, "\nfirst lows", first_lows)?;
+    put_list(rt, "\nfirst highs", first_highs)?;
+    put_lengths(rt, "\nsubtree lengths", subtree)?;
+    put_list(rt, "\nfinal lows", final_lows)?;
+    put_list(rt, "\nfinal highs", final_highs)?;
+    put_list(rt, "\nstates", states)
 }
 
 fn ask_one(
+    rt: &impl Print,
     n: usize,
     c: usize,
     character: usize,
@@ -184,7 +177,7 @@ fn ask_one(
     final_lows: &mut [u16],
     final_highs: &mut [u16],
     states: &mut [u16],
-) {
+) -> io::Result<()> {
     let one = characters::one_character(
         n,
         c,
@@ -200,6 +193,7 @@ fn ask_one(
         states,
     );
     put_one(
+        rt,
         one,
         first_lows,
         first_highs,
@@ -207,10 +201,11 @@ fn ask_one(
         final_lows,
         final_highs,
         states,
-    );
+    )
 }
 
 fn lend_results(
+    rt: &impl Print,
     n: usize,
     c: usize,
     character: usize,
@@ -229,11 +224,12 @@ fn lend_results(
     final_lows: &mut [u16],
     final_highs: &mut [u16],
     states: &mut [u16],
-)
+) -> io::Result<()>
     requires { (i ≤ length first_lows.old) × (j ≤ length first_highs.old) × (k ≤ length subtree.old)
         × (l ≤ length final_lows.old) × (p ≤ length final_highs.old) × (q ≤ length states.old) }
 {
     ask_one(
+        rt,
         n,
         c,
         character,
@@ -246,10 +242,11 @@ fn lend_results(
         &mut final_lows[..l],
         &mut final_highs[..p],
         &mut states[..q],
-    );
+    )
 }
 
 fn with_results(
+    rt: &impl Print,
     n: usize,
     c: usize,
     character: usize,
@@ -257,7 +254,7 @@ fn with_results(
     lens: &[u16; 8],
     tree: &[u16],
     matrix: &[u16],
-) {
+) -> io::Result<()> {
     let mut first_lows = room(60000);
     let mut first_highs = room(60000);
     let mut subtree = length_room();
@@ -265,6 +262,7 @@ fn with_results(
     let mut final_highs = room(60000);
     let mut states = room(60000);
     lend_results(
+        rt,
         n,
         c,
         character,
@@ -283,16 +281,17 @@ fn with_results(
         &mut final_lows,
         &mut final_highs,
         &mut states,
-    );
+    )
 }
 
-fn ask_all(n: usize, c: usize, tree: &[u16], matrix: &[u16]) {
+fn ask_all(rt: &impl Print, n: usize, c: usize, tree: &[u16], matrix: &[u16]) -> io::Result<()> {
     let all = characters::all_characters(n, c, tree, matrix);
-    put_answer(b"\nall ", all);
-    io::write_all(STDOUT_FILENO, b"\n");
+    put_answer(rt, "\nall ", all)?;
+    print!(rt; "\n")
 }
 
 fn with_inputs(
+    rt: &impl Print,
     text: &[u8],
     at: usize,
     n: usize,
@@ -302,15 +301,16 @@ fn with_inputs(
     lens: &[u16; 8],
     tree: &mut [u16],
     matrix: &mut [u16],
-) -> usize {
+) -> io::Result<usize> {
     let next = read_list(text, at, tree);
     let end = read_list(text, next, matrix);
-    with_results(n, c, character, resolve, lens, tree, matrix);
-    ask_all(n, c, tree, matrix);
-    end
+    with_results(rt, n, c, character, resolve, lens, tree, matrix)?;
+    ask_all(rt, n, c, tree, matrix)?;
+    Ok(end)
 }
 
 fn lend_inputs(
+    rt: &impl Print,
     text: &[u8],
     at: usize,
     n: usize,
@@ -322,10 +322,11 @@ fn lend_inputs(
     j: usize,
     tree: &mut [u16],
     matrix: &mut [u16],
-) -> usize
+) -> io::Result<usize>
     requires { (i ≤ length tree.old) × (j ≤ length matrix.old) }
 {
     with_inputs(
+        rt,
         text,
         at,
         n,
@@ -338,7 +339,7 @@ fn lend_inputs(
     )
 }
 
-fn one_case(text: &[u8], at: usize) -> usize {
+fn one_case(rt: &impl Print, text: &[u8], at: usize) -> io::Result<usize> {
     let n = next_number(text, at);
     let c = next_number(text, n.next);
     let character = next_number(text, c.next);
@@ -350,6 +351,7 @@ fn one_case(text: &[u8], at: usize) -> usize {
     let mut tree = room(0);
     let mut matrix = room(0);
     lend_inputs(
+        rt,
         text,
         next,
         wide(n.value),
@@ -364,19 +366,18 @@ fn one_case(text: &[u8], at: usize) -> usize {
     )
 }
 
-fn run(text: &[u8]) {
+fn run(rt: &impl Print, text: &[u8]) -> io::Result<()> {
     let mut at: usize = 0;
-    let mut turns = text.len();
-    while 0 < turns {
+    for _ in 0..text.len() {
         if at < text.len() {
-            at = one_case(text, at);
+            at = one_case(rt, text, at)?;
         }
-        turns -= 1;
     }
+    Ok(())
 }
 
-fn main() {
+fn main(rt: HostRuntime) -> io::Result<()> {
     let mut text = text_room();
-    let length = io::read_full(STDIN_FILENO, &mut text);
-    run(&text[..length]);
+    let length = inputs::read_full(&mut rt.stdin(), &mut text)?;
+    run(&rt, &text[..length])
 }

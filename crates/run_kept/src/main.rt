@@ -13,8 +13,8 @@ mod writing;
 
 ghost use Rattle.std.specs.Prelude.{◌≡◌, ◌≤◌, ◌<◌, min, length};
 
-use libc::{STDIN_FILENO, STDOUT_FILENO};
 use refusals::wide;
+use std::io;
 
 // ---- rooms, of which a call is lent the beginnings
 
@@ -33,7 +33,8 @@ fn length_room(value: u32) -> [u32; 2500]
 // ---- a table built, here and afresh
 
 fn build(
-    name: &[u8],
+    rt: &impl Print,
+    name: &str,
     n: usize,
     c: usize,
     tree: &[u16],
@@ -41,13 +42,14 @@ fn build(
     lows: &mut [u16],
     highs: &mut [u16],
     lengths: &mut [u32],
-) {
+) -> io::Result<()> {
     let built = kept::build(n, c, tree, matrix, lows, highs, lengths);
-    writing::put_built(name, built);
-    writing::put_table(lows, highs, lengths);
+    writing::put_built(rt, name, built)?;
+    writing::put_table(rt, lows, highs, lengths)
 }
 
 fn lend_fresh(
+    rt: &impl Print,
     n: usize,
     c: usize,
     tree: &[u16],
@@ -58,11 +60,12 @@ fn lend_fresh(
     lows: &mut [u16],
     highs: &mut [u16],
     lengths: &mut [u32],
-)
+) -> io::Result<()>
     requires { (i ≤ length lows.old) × (j ≤ length highs.old) × (k ≤ length lengths.old) }
 {
     build(
-        b"\n  fresh ",
+        rt,
+        "\n  fresh ",
         n,
         c,
         tree,
@@ -70,14 +73,24 @@ fn lend_fresh(
         &mut lows[..i],
         &mut highs[..j],
         &mut lengths[..k],
-    );
+    )
 }
 
-fn build_fresh(n: usize, c: usize, tree: &[u16], matrix: &[u16], i: usize, j: usize, k: usize) {
+fn build_fresh(
+    rt: &impl Print,
+    n: usize,
+    c: usize,
+    tree: &[u16],
+    matrix: &[u16],
+    i: usize,
+    j: usize,
+    k: usize,
+) -> io::Result<()> {
     let mut lows = room(0);
     let mut highs = room(0);
     let mut lengths = length_room(0);
     lend_fresh(
+        rt,
         n,
         c,
         tree,
@@ -88,12 +101,13 @@ fn build_fresh(n: usize, c: usize, tree: &[u16], matrix: &[u16], i: usize, j: us
         &mut lows,
         &mut highs,
         &mut lengths,
-    );
+    )
 }
 
 // ---- what is asked of a table
 
 fn ask_character(
+    rt: &impl Print,
     n: usize,
     c: usize,
     character: usize,
@@ -104,7 +118,7 @@ fn ask_character(
     lengths: &[u32],
     final_lows: &mut [u16],
     final_highs: &mut [u16],
-) {
+) -> io::Result<()> {
     let length = kept_characters::kept_character(
         n,
         c,
@@ -117,12 +131,13 @@ fn ask_character(
         final_lows,
         final_highs,
     );
-    writing::put_length(b"\n  character ", length);
-    writing::put_digest(b" final lows=", final_lows);
-    writing::put_digest(b" final highs=", final_highs);
+    writing::put_length(rt, "\n  character ", length)?;
+    writing::put_digest(rt, " final lows=", final_lows)?;
+    writing::put_digest(rt, " final highs=", final_highs)
 }
 
 fn lend_finals(
+    rt: &impl Print,
     n: usize,
     c: usize,
     character: usize,
@@ -135,10 +150,11 @@ fn lend_finals(
     j: usize,
     final_lows: &mut [u16],
     final_highs: &mut [u16],
-)
+) -> io::Result<()>
     requires { (i ≤ length final_lows.old) × (j ≤ length final_highs.old) }
 {
     ask_character(
+        rt,
         n,
         c,
         character,
@@ -149,10 +165,11 @@ fn lend_finals(
         lengths,
         &mut final_lows[..i],
         &mut final_highs[..j],
-    );
+    )
 }
 
 fn ask(
+    rt: &impl Print,
     n: usize,
     c: usize,
     character: usize,
@@ -163,12 +180,13 @@ fn ask(
     lows: &[u16],
     highs: &[u16],
     lengths: &[u32],
-) {
+) -> io::Result<()> {
     let length = kept::kept_length(n, c, tree, matrix, lows, highs, lengths);
-    writing::put_length(b"\n  tree ", length);
+    writing::put_length(rt, "\n  tree ", length)?;
     let mut final_lows = room(60000);
     let mut final_highs = room(60000);
     lend_finals(
+        rt,
         n,
         c,
         character,
@@ -181,13 +199,14 @@ fn ask(
         reading::least(j, 2500),
         &mut final_lows,
         &mut final_highs,
-    );
-    io::write_all(STDOUT_FILENO, b"\n");
+    )?;
+    print!(rt; "\n")
 }
 
 // ---- a table and its corrections
 
 fn correct(
+    rt: &impl Print,
     n: usize,
     c: usize,
     text: &[u8],
@@ -197,7 +216,7 @@ fn correct(
     lows: &mut [u16],
     highs: &mut [u16],
     lengths: &mut [u32],
-) -> usize {
+) -> io::Result<usize> {
     let taxon = reading::next_number(text, at);
     let character = reading::next_number(text, taxon.next);
     let state = reading::next_number(text, character.next);
@@ -215,11 +234,21 @@ fn correct(
         highs,
         lengths,
     );
-    writing::put_count(count);
-    writing::put_digest(b" matrix=", matrix);
-    writing::put_table(lows, highs, lengths);
-    build_fresh(n, c, tree, matrix, lows.len(), highs.len(), lengths.len());
+    writing::put_count(rt, count)?;
+    writing::put_digest(rt, " matrix=", matrix)?;
+    writing::put_table(rt, lows, highs, lengths)?;
+    build_fresh(
+        rt,
+        n,
+        c,
+        tree,
+        matrix,
+        lows.len(),
+        highs.len(),
+        lengths.len(),
+    )?;
     ask(
+        rt,
         n,
         c,
         wide(character.value),
@@ -230,11 +259,12 @@ fn correct(
         lows,
         highs,
         lengths,
-    );
-    j.next
+    )?;
+    Ok(j.next)
 }
 
 fn corrections(
+    rt: &impl Print,
     n: usize,
     c: usize,
     text: &[u8],
@@ -244,20 +274,19 @@ fn corrections(
     lows: &mut [u16],
     highs: &mut [u16],
     lengths: &mut [u32],
-) -> usize {
+) -> io::Result<usize> {
     let count = reading::next_number(text, at);
     let mut next = count.next;
-    let mut turns = count.value;
-    while 0 < turns {
-        next = correct(n, c, text, next, tree, matrix, lows, highs, lengths);
-        turns -= 1;
+    for _ in 0..count.value {
+        next = correct(rt, n, c, text, next, tree, matrix, lows, highs, lengths)?;
     }
-    writing::put_entries(lows, highs, lengths);
-    next
+    writing::put_entries(rt, lows, highs, lengths)?;
+    Ok(next)
 }
 
 // Builds the table, or reads it.
 fn make_table(
+    rt: &impl Print,
     n: usize,
     c: usize,
     text: &[u8],
@@ -267,19 +296,20 @@ fn make_table(
     lows: &mut [u16],
     highs: &mut [u16],
     lengths: &mut [u32],
-) -> usize {
+) -> io::Result<usize> {
     let given = reading::next_number(text, at);
     if given.value == 0 {
-        build(b"", n, c, tree, matrix, lows, highs, lengths);
-        io::write_all(STDOUT_FILENO, b"\n");
-        return given.next;
+        build(rt, "", n, c, tree, matrix, lows, highs, lengths)?;
+        print!(rt; "\n")?;
+        return Ok(given.next);
     }
     let after_lows = reading::read_list(text, given.next, lows);
     let after_highs = reading::read_list(text, after_lows, highs);
-    reading::read_lengths(text, after_highs, lengths)
+    Ok(reading::read_lengths(text, after_highs, lengths))
 }
 
 fn table_and_corrections(
+    rt: &impl Print,
     n: usize,
     c: usize,
     text: &[u8],
@@ -289,14 +319,37 @@ fn table_and_corrections(
     lows: &mut [u16],
     highs: &mut [u16],
     lengths: &mut [u32],
-) -> usize {
+) -> io::Result<usize> {
     let after_tree = reading::read_list(text, at, tree);
     let after_matrix = reading::read_list(text, after_tree, matrix);
-    let after_table = make_table(n, c, text, after_matrix, tree, matrix, lows, highs, lengths);
-    corrections(n, c, text, after_table, tree, matrix, lows, highs, lengths)
+    let after_table = make_table(
+        rt,
+        n,
+        c,
+        text,
+        after_matrix,
+        tree,
+        matrix,
+        lows,
+        highs,
+        lengths,
+    )?;
+    corrections(
+        rt,
+        n,
+        c,
+        text,
+        after_table,
+        tree,
+        matrix,
+        lows,
+        highs,
+        lengths,
+    )
 }
 
 fn lend(
+    rt: &impl Print,
     n: usize,
     c: usize,
     text: &[u8],
@@ -311,10 +364,11 @@ fn lend(
     lows: &mut [u16],
     highs: &mut [u16],
     lengths: &mut [u32],
-) -> usize
+) -> io::Result<usize>
     requires { (i ≤ length tree.old) × (j ≤ length matrix.old) × (k ≤ length lows.old) × (l ≤ length highs.old) × (p ≤ length lengths.old) }
 {
     table_and_corrections(
+        rt,
         n,
         c,
         text,
@@ -327,7 +381,7 @@ fn lend(
     )
 }
 
-fn one_table(text: &[u8], at: usize) -> usize {
+fn one_table(rt: &impl Print, text: &[u8], at: usize) -> io::Result<usize> {
     let n = reading::next_number(text, at);
     let c = reading::next_number(text, n.next);
     let mut lens = [0u16; 5];
@@ -338,6 +392,7 @@ fn one_table(text: &[u8], at: usize) -> usize {
     let mut highs = room(13);
     let mut lengths = length_room(17);
     lend(
+        rt,
         wide(n.value),
         wide(c.value),
         text,
@@ -355,19 +410,18 @@ fn one_table(text: &[u8], at: usize) -> usize {
     )
 }
 
-fn run(text: &[u8]) {
+fn run(rt: &impl Print, text: &[u8]) -> io::Result<()> {
     let mut at: usize = 0;
-    let mut turns = text.len();
-    while 0 < turns {
+    for _ in 0..text.len() {
         if at < text.len() {
-            at = one_table(text, at);
+            at = one_table(rt, text, at)?;
         }
-        turns -= 1;
     }
+    Ok(())
 }
 
-fn main() {
-    let mut text = io::large_buffer();
-    let length = io::read_full(STDIN_FILENO, &mut text);
-    run(&text[..length]);
+fn main(rt: HostRuntime) -> io::Result<()> {
+    let mut text = [0u8; 65536];
+    let length = inputs::read_full(&mut rt.stdin(), &mut text)?;
+    run(&rt, &text[..length])
 }

@@ -33,12 +33,10 @@ pub(crate) fn next_number(text: &[u8], at: usize) -> Number {
 // Fills a list with the numbers from a position on, and answers the position after them.
 pub(crate) fn read_list(text: &[u8], at: usize, list: &mut [u16]) -> usize {
     let mut next = at;
-    let mut k: usize = 0;
-    while k < list.len() {
-        let entry = next_number(text, next);
-        list[k] = entry.value;
-        next = entry.next;
-        k += 1;
+    for entry in list {
+        let number = next_number(text, next);
+        *entry = number.value;
+        next = number.next;
     }
     next
 }
@@ -51,13 +49,11 @@ fn joined(above: u16, rest: u16) -> u32 {
 // The same for lengths, of which each is two numbers.
 pub(crate) fn read_lengths(text: &[u8], at: usize, list: &mut [u32]) -> usize {
     let mut next = at;
-    let mut k: usize = 0;
-    while k < list.len() {
+    for entry in list {
         let above = next_number(text, next);
         let rest = next_number(text, above.next);
-        list[k] = joined(above.value, rest.value);
+        *entry = joined(above.value, rest.value);
         next = rest.next;
-        k += 1;
     }
     next
 }

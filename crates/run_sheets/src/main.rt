@@ -7,9 +7,10 @@ ghost use Rattle.std.specs.Prelude.{◌≡◌, ◌≤◌, min, length};
 
 use bodies::SheetAnswer;
 use choices::Resolve;
-use libc::{STDIN_FILENO, STDOUT_FILENO};
 use numbers::Parsed;
 use refusals::wide;
+use std::io;
+use std::io::Read;
 
 fn number_at(text: &[u8], at: usize) -> usize {
     let got = numbers::number(text, at);
@@ -25,16 +26,13 @@ fn least(a: usize, b: usize) -> usize
     if a < b { a } else { b }
 }
 
-fn put(number: u64, end: &[u8]) {
-    io::print_decimal(STDOUT_FILENO, number);
-    io::write_all(STDOUT_FILENO, end);
+fn put(rt: &impl Print, number: u64, end: &str) -> io::Result<()> {
+    print!(rt; "{number}{end}")
 }
 
 fn fill(list: &mut [u16], v: u16) {
-    let mut k: usize = 0;
-    while k < list.len() {
-        list[k] = v;
-        k += 1;
+    for entry in list {
+        *entry = v;
     }
 }
 
@@ -49,99 +47,124 @@ fn checksum(list: &[u16]) -> u32
     ensures { result ≤ 65520 }
 {
     let mut sum: u32 = 1;
-    let mut k: usize = 0;
-    while k < list.len() {
-        sum = mix(sum, list[k]);
-        k += 1;
+    for value in list {
+        sum = mix(sum, *value);
     }
     sum
 }
 
-fn put_choice(choice: Resolve) {
+fn put_choice(rt: &impl Print, choice: Resolve) -> io::Result<()> {
     match choice {
-        Resolve::Acctran => {
-            io::write_all(STDOUT_FILENO, b"acctran");
-        }
-        Resolve::Deltran => {
-            io::write_all(STDOUT_FILENO, b"deltran");
-        }
+        Resolve::Acctran => print!(rt; "acctran"),
+        Resolve::Deltran => print!(rt; "deltran"),
     }
 }
 
-fn put_answer(answer: SheetAnswer) {
+fn put_answer(rt: &impl Print, answer: SheetAnswer) -> io::Result<()> {
     match answer {
         SheetAnswer::Read(n, c, choice) => {
-            io::write_all(STDOUT_FILENO, b"read=");
-            put(n as u64, b",");
-            put(c as u64, b",");
-            put_choice(choice);
+            print!(rt; "read=")?;
+            put(rt, n as u64, ",")?;
+            put(rt, c as u64, ",")?;
+            put_choice(rt, choice)
         }
         SheetAnswer::Refused(refusal) => {
-            io::write_all(STDOUT_FILENO, b"refused=");
-            put(refusal.number as u64, b",");
-            put(refusal.place as u64, b"");
+            print!(rt; "refused=")?;
+            put(rt, refusal.number as u64, ",")?;
+            put(rt, refusal.place as u64, "")
         }
     }
 }
 
-fn answer(text: &[u8], tree: &mut [u16], matrix: &mut [u16]) {
+fn answer(rt: &impl Print, text: &[u8], tree: &mut [u16], matrix: &mut [u16]) -> io::Result<()> {
     fill(tree, 7);
     fill(matrix, 8);
     let got = sheets::read_sheet(text, tree, matrix);
-    put_answer(got);
-    io::write_all(STDOUT_FILENO, b" tree=");
-    put(checksum(tree) as u64, b" matrix=");
-    put(checksum(matrix) as u64, b"\n");
+    put_answer(rt, got)?;
+    print!(rt; " tree=")?;
+    put(rt, checksum(tree) as u64, " matrix=")?;
+    put(rt, checksum(matrix) as u64, "\n")
 }
 
-fn lend_matrix(text: &[u8], tree: &mut [u16], count: usize, room: &mut [u16])
+fn lend_matrix(
+    rt: &impl Print,
+    text: &[u8],
+    tree: &mut [u16],
+    count: usize,
+    room: &mut [u16],
+) -> io::Result<()>
     requires { count ≤ length room.old }
 {
-    answer(text, tree, &mut room[..count])
+    answer(rt, text, tree, &mut room[..count])
 }
 
-fn lend_tree(text: &[u8], count: usize, room: &mut [u16], cells: usize, matrix: &mut [u16])
+fn lend_tree(
+    rt: &impl Print,
+    text: &[u8],
+    count: usize,
+    room: &mut [u16],
+    cells: usize,
+    matrix: &mut [u16],
+) -> io::Result<()>
     requires { (count ≤ length room.old) × (cells ≤ length matrix.old) }
 {
-    lend_matrix(text, &mut room[..count], cells, matrix)
+    lend_matrix(rt, text, &mut room[..count], cells, matrix)
 }
 
-fn answer_of(text: &[u8], header: &[u8]) {
+fn answer_of(rt: &impl Print, text: &[u8], header: &[u8]) -> io::Result<()> {
     let mut tree = [0u16; 600];
     let mut matrix = [0u16; 16400];
     lend_tree(
+        rt,
         text,
         least(number_at(header, 0), 600),
         &mut tree,
         least(number_at(header, 6), 16400),
         &mut matrix,
-    );
+    )
 }
 
-fn read_and_answer(text: &mut [u8], header: &[u8]) {
-    io::read_full(STDIN_FILENO, text);
-    answer_of(text, header);
+fn read_and_answer(
+    rt: &impl Print,
+    input: &mut impl Read,
+    text: &mut [u8],
+    header: &[u8],
+) -> io::Result<()> {
+    inputs::read_full(input, text)?;
+    answer_of(rt, text, header)
 }
 
-fn lend_text(header: &[u8], count: usize, room: &mut [u8])
+fn lend_text(
+    rt: &impl Print,
+    input: &mut impl Read,
+    header: &[u8],
+    count: usize,
+    room: &mut [u8],
+) -> io::Result<()>
     requires { count ≤ length room.old }
 {
-    read_and_answer(&mut room[..count], header)
+    read_and_answer(rt, input, &mut room[..count], header)
 }
 
-fn one_text(header: &[u8]) {
+fn one_text(rt: &impl Print, input: &mut impl Read, header: &[u8]) -> io::Result<()> {
     let mut room = [0u8; 40000];
-    lend_text(header, least(number_at(header, 12), 40000), &mut room);
+    lend_text(
+        rt,
+        input,
+        header,
+        least(number_at(header, 12), 40000),
+        &mut room,
+    )
 }
 
-fn main() {
-    let mut turns: usize = 100000;
-    while 0 < turns {
+fn main(rt: HostRuntime) -> io::Result<()> {
+    let mut input = rt.stdin();
+    for _ in 0..100000 {
         let mut header = [0u8; 18];
-        if io::read_full(STDIN_FILENO, &mut header) != 18 {
-            return;
+        if inputs::read_full(&mut input, &mut header)? != 18 {
+            return Ok(());
         }
-        one_text(&header);
-        turns -= 1;
+        one_text(&rt, &mut input, &header)?;
     }
+    Ok(())
 }

@@ -4,9 +4,9 @@
 
 ghost use Rattle.std.specs.Prelude.{◌≡◌, ◌≤◌, min, length};
 
-use libc::{STDIN_FILENO, STDOUT_FILENO};
 use numbers::Parsed;
 use refusals::wide;
+use std::io;
 use trees::TreeAnswer;
 
 // A number, and the position after the byte that follows it.
@@ -36,33 +36,30 @@ fn next_number(text: &[u8], at: usize) -> Number {
 
 fn read_table(text: &[u8], at: usize, tree: &mut [u16]) -> usize {
     let mut next = at;
-    let mut k: usize = 0;
-    while k < tree.len() {
-        let entry = next_number(text, next);
-        tree[k] = entry.value;
-        next = entry.next;
-        k += 1;
+    for entry in tree {
+        let number = next_number(text, next);
+        *entry = number.value;
+        next = number.next;
     }
     next
 }
 
-fn put(number: u64, end: &[u8]) {
-    io::print_decimal(STDOUT_FILENO, number);
-    io::write_all(STDOUT_FILENO, end);
+fn put(rt: &impl Print, number: u64, end: &str) -> io::Result<()> {
+    print!(rt; "{number}{end}")
 }
 
-fn answer(n: usize, tree: &[u16]) {
+fn answer(rt: &impl Print, n: usize, tree: &[u16]) -> io::Result<()> {
     let got = trees::accept_tree(n, tree);
     match got {
         TreeAnswer::Accepted(root, descendant) => {
-            io::write_all(STDOUT_FILENO, b"root=");
-            put(root as u64, b",");
-            put(descendant as u64, b"\n");
+            print!(rt; "root=")?;
+            put(rt, root as u64, ",")?;
+            put(rt, descendant as u64, "\n")
         }
         TreeAnswer::Refused(refusal) => {
-            io::write_all(STDOUT_FILENO, b"refused=");
-            put(refusal.number as u64, b",");
-            put(refusal.place as u64, b"\n");
+            print!(rt; "refused=")?;
+            put(rt, refusal.number as u64, ",")?;
+            put(rt, refusal.place as u64, "\n")
         }
     }
 }
@@ -73,39 +70,51 @@ fn least(a: usize, b: usize) -> usize
     if a < b { a } else { b }
 }
 
-fn read_and_answer(text: &[u8], at: usize, n: usize, tree: &mut [u16]) -> usize {
+fn read_and_answer(
+    rt: &impl Print,
+    text: &[u8],
+    at: usize,
+    n: usize,
+    tree: &mut [u16],
+) -> io::Result<usize> {
     let next = read_table(text, at, tree);
-    answer(n, tree);
-    next
+    answer(rt, n, tree)?;
+    Ok(next)
 }
 
-fn read_in(text: &[u8], at: usize, n: usize, count: usize, room: &mut [u16]) -> usize
+fn read_in(
+    rt: &impl Print,
+    text: &[u8],
+    at: usize,
+    n: usize,
+    count: usize,
+    room: &mut [u16],
+) -> io::Result<usize>
     requires { count ≤ length room.old }
 {
-    read_and_answer(text, at, n, &mut room[..count])
+    read_and_answer(rt, text, at, n, &mut room[..count])
 }
 
-fn one_table(text: &[u8], at: usize) -> usize {
+fn one_table(rt: &impl Print, text: &[u8], at: usize) -> io::Result<usize> {
     let n = next_number(text, at);
     let count = next_number(text, n.next);
     let mut room = [0u16; 600];
     let m = least(wide(count.value), 600);
-    read_in(text, count.next, wide(n.value), m, &mut room)
+    read_in(rt, text, count.next, wide(n.value), m, &mut room)
 }
 
-fn run(text: &[u8]) {
+fn run(rt: &impl Print, text: &[u8]) -> io::Result<()> {
     let mut at: usize = 0;
-    let mut turns = text.len();
-    while 0 < turns {
+    for _ in 0..text.len() {
         if at < text.len() {
-            at = one_table(text, at);
+            at = one_table(rt, text, at)?;
         }
-        turns -= 1;
     }
+    Ok(())
 }
 
-fn main() {
-    let mut text = io::large_buffer();
-    let length = io::read_full(STDIN_FILENO, &mut text);
-    run(&text[..length]);
+fn main(rt: HostRuntime) -> io::Result<()> {
+    let mut text = [0u8; 65536];
+    let length = inputs::read_full(&mut rt.stdin(), &mut text)?;
+    run(&rt, &text[..length])
 }

@@ -1,0 +1,7 @@
+-- As many zeros as are asked for.
+use Rattle.std.proofs.Common.{ℕ, sym}
+use Rattle.std.proofs.lemmas.List.{length-replicate}
+use Rattle.report.proofs.report_room.Goals as goal
+
+pub returns : goal.returns
+returns c = sym (length-replicate {0} {A = ℕ} 524288 0)

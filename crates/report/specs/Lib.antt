@@ -1,0 +1,3 @@
+-- What the program writes.
+-- Assumes nothing.
+pub mod Gains
