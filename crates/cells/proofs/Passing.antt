@@ -1,10 +1,10 @@
 -- A search that has passed i cells, or i taxa, and found no state above 9999: one more.
 -- Assumes nothing.
-use mathlib.Core.Path.{◌≡◌, sym, ap, subst}
+use mathlib.Core.Path.{◌≡◌, ap}
 use mathlib.Core.List.{List}
 use Prim.Native.Nat.{ℕ, ◌+◌, ◌-◌, ◌*◌, ◌≤◌, ◌<◌}
 use native.Mathlib.Omega.{arith}
-use lib.ListN.{length, get_or}
+use lib.ListN.{get_or}
 use Rattle.refusals.specs.Search.{Lowest, Never}
 use Rattle.refusals.proofs.Laws.{never_more, lowest-here}
 use Rattle.parsimony.specs.Matrix.{cell_at, state_of}

@@ -1,8 +1,8 @@
 -- The entries of a table taken one by one: stray entries, and the descendants of the nodes, counted.
 -- Assumes nothing.
-use mathlib.Core.Path.{◌≡◌, refl, sym, ◌∙◌, ap, subst}
-use mathlib.Core.List.{List, [], ◌∷◌, ◌++◌}
-use Prim.Native.Nat.{ℕ, zero, suc, ◌+◌, ◌≤◌, ◌<◌}
+use mathlib.Core.Path.{◌≡◌, sym, ◌∙◌, ap, subst}
+use mathlib.Core.List.{List, [], ◌∷◌}
+use Prim.Native.Nat.{ℕ, ◌+◌, ◌≤◌, ◌<◌}
 use native.Mathlib.Decide.{ℕ_discrete}
 use native.Mathlib.Numerals.{add-one}
 use native.Mathlib.Omega.{arith}
@@ -10,7 +10,7 @@ use lib.ListN.{length, get_or, set, replicate, length-replicate}
 use lib.Seq.{get_or-set_same, get_or-set_other}
 use Rattle.parsimony.specs.Lists.{sum, from, same}
 use Rattle.parsimony.specs.Table.{ancestor, nodes, descendants}
-use Rattle.parsimony.proofs.Sums.{same_self, same-apart, same-small, zeros, from_more, length_from, sum-append, sum_small, all_from, All}
+use Rattle.parsimony.proofs.Sums.{same_self, same-apart, same-small, zeros, from_more, length_from, sum-append, sum_small, all_from}
 use Rattle.parsimony.proofs.Tables.Descendants.{length-having}
 use Rattle.refusals.specs.Search.{Lowest, Never}
 use Rattle.refusals.proofs.Laws.{never_more, lowest-here}

@@ -10,7 +10,7 @@ use Rattle.choices.specs.declared.Resolve.TheVariants.{Acctran, Deltran}
 use Rattle.refusals.specs.Checks.{Passes}
 use Rattle.refusals.proofs.Order.{clear_at}
 use Rattle.lines.specs.Printed.{line, row_key, FitRows}
-use Rattle.lines.specs.Lines.{line_at, all, rows_at}
+use Rattle.lines.specs.Lines.{line_at, rows_at}
 use Rattle.lines.proofs.Round.{head_read, line_read, rows_read}
 use Rattle.lines.proofs.Unambiguous.{one_head, one_line, one_table}
 use Rattle.forms.specs.Sheets.{Sheet, Last, unsaid, said, Within, lines_of, last_lines, resolve_line, IsSheet, Begins}

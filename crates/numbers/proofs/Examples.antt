@@ -1,7 +1,7 @@
 -- Numbers in print, byte by byte: the ends of what a sheet can hold, and the ancestors of document 01's sheet.
 -- Assumes nothing.
 use mathlib.Core.Path.{◌≡◌, refl}
-use mathlib.Core.List.{List, [], ◌∷◌}
+use mathlib.Core.List.{[], ◌∷◌}
 use Rattle.numbers.specs.Printed.{decimal_of, decimal, continued, commas}
 
 -- 0

@@ -1,7 +1,7 @@
 -- Numbers and keys in a text. A text is a list of bytes, and a position counts its bytes from 0; a byte past the end counts as 0.
 -- How a number is written is in Printed.antt, and that reading and writing undo each other in proofs/Round.antt.
 -- Assumes nothing.
-use Rattle.std.specs.Prelude.{List, [], ◌∷◌, Bool, true, false, cond, ◌&&◌, ℕ, ◌+◌, ◌-◌, ◌*◌, eqb, leb, ltb, get_or, drop}
+use Rattle.std.specs.Prelude.{List, [], ◌∷◌, Bool, true, cond, ◌&&◌, ℕ, ◌+◌, ◌-◌, ◌*◌, eqb, leb, ltb, get_or, drop}
 use Rattle.numbers.specs.declared.Parsed.{Parsed}
 use Rattle.numbers.specs.declared.Parsed.TheVariants.{Value, Bad}
 

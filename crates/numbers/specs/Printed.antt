@@ -1,6 +1,6 @@
 -- How numbers are written: in decimal, with no leading zero; and several of them with commas between.
 -- Assumes nothing.
-use Rattle.std.specs.Prelude.{List, [], ◌∷◌, ◌++◌, cond, ℕ, zero, suc, ◌+◌, ◌-◌, ◌*◌, ◌/◌, ◌%◌, ltb}
+use Rattle.std.specs.Prelude.{List, [], ◌∷◌, ◌++◌, cond, ℕ, zero, suc, ◌+◌, ◌/◌, ◌%◌, ltb}
 
 -- the decimal digits of n, of which there are no more than most + 1
 unfoldable pub decimal_of : ℕ → ℕ → List ℕ

@@ -1,7 +1,7 @@
 -- The order of the interior nodes, as a queue: the root's descendant, and then the interior descendants of each node in turn. `ks` is the queue, and
 -- the first i of it have had their turn. Each interior node comes into it once, when its ancestor has its turn.
 -- Assumes nothing.
-use mathlib.Core.Path.{◌≡◌, refl, sym, ◌∙◌, ap, ap₂, subst}
+use mathlib.Core.Path.{◌≡◌, refl, sym, ◌∙◌, ap, subst}
 use mathlib.Core.Logic.{◌≢◌}
 use mathlib.Core.List.{List, [], ◌∷◌, ◌++◌}
 use Prim.Native.Nat.{ℕ, zero, suc, ◌+◌, ◌-◌, ◌*◌, ◌≤◌, ◌<◌}
@@ -12,7 +12,7 @@ use lib.ListN.{length, get_or, take, length-append}
 use lib.Seq.{take-suc, take-append-le, take-length, get_or-append_seam, get_or-take}
 use Rattle.parsimony.specs.Lists.{choose, same}
 use Rattle.parsimony.specs.Table.{ancestor, descendants, deep}
-use Rattle.parsimony.proofs.Sums.{often, same_self, same-apart, same_equal, choose_yes, choose_no}
+use Rattle.parsimony.proofs.Sums.{often, same_self, same-apart}
 use Rattle.parsimony.proofs.Often.{
   often_snoc,
   often-take,
@@ -24,7 +24,7 @@ use Rattle.parsimony.proofs.Often.{
   all_there,
 }
 use Rattle.parsimony.proofs.Tables.Descendants.{often-descendants}
-use Rattle.parsimony.proofs.Tables.Trees.{Tree, δ-ancestor, δ-some, δ-most}
+use Rattle.parsimony.proofs.Tables.Trees.{Tree, δ-ancestor, δ-most}
 use Rattle.parsimony.proofs.Tables.Whole.{δ-inner}
 use Rattle.shapes.specs.Shape.{under}
 use Rattle.orders.specs.Orders.{IsOrder}

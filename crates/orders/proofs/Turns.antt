@@ -3,14 +3,14 @@
 -- Assumes nothing.
 use mathlib.Core.Path.{◌≡◌, refl, sym, ◌∙◌, ap, ap₂, subst}
 use mathlib.Core.List.{List, [], ◌∷◌, ◌++◌}
-use Prim.Native.Nat.{ℕ, suc, ◌+◌, ◌-◌, ◌*◌, ◌≤◌, ◌<◌}
+use Prim.Native.Nat.{ℕ, suc, ◌+◌, ◌-◌, ◌≤◌, ◌<◌}
 use native.Mathlib.Decide.{dec_le}
 use native.Mathlib.Numerals.{add-one}
 use native.Mathlib.Omega.{arith}
 use lib.ListN.{length, get_or, take, set, length-set}
 use lib.Seq.{get_or-take, length-take-le, take-suc-set}
 use Rattle.parsimony.specs.Lists.{choose}
-use Rattle.parsimony.specs.Table.{descendants, IsTree}
+use Rattle.parsimony.specs.Table.{descendants}
 use Rattle.parsimony.proofs.Tables.Trees.{Tree}
 use Rattle.shapes.specs.Filling.{Orders}
 use Rattle.orders.specs.Orders.{put_at, place_after, Listed}

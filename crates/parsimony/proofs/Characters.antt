@@ -10,21 +10,20 @@ use lib.ListN.{length, get_or, set}
 use lib.Seq.{get_or-set_same, get_or-set_other, ext_get_or}
 use lib.IntN.{ℤ, pos, negsuc}
 use Rattle.parsimony.specs.Lists.{choose}
-use Rattle.parsimony.specs.Table.{ancestor, IsTree}
+use Rattle.parsimony.specs.Table.{ancestor}
 use Rattle.parsimony.specs.Kind.{In}
-use Rattle.parsimony.specs.Ordered.{Range, span, point, Between, nearest, away, join, cost, ordered}
-use Rattle.parsimony.specs.Way.{Agrees, AgreesBelow, length_of, length_below}
-use Rattle.parsimony.specs.Least.{IsLeast, Used}
+use Rattle.parsimony.specs.Ordered.{Range, span, point, nearest, away, join, cost, ordered}
+use Rattle.parsimony.specs.Way.{Agrees, length_of}
 use Rattle.parsimony.specs.Meaning.{EntryMeans, FinalMeans, LengthMeans, Reconstructs}
 use Rattle.parsimony.specs.Steps.{Settled, FirstPass, SecondPass, final, length_by, Chosen, RootChosen}
 use Rattle.parsimony.specs.Character.{at_node, cells, ranges, sizes, way_of, FirstMeans, FinalsMean}
 use Rattle.parsimony.proofs.Sums.{choose_yes, choose_no}
-use Rattle.parsimony.proofs.Tables.Trees.{Tree, δ-most}
+use Rattle.parsimony.proofs.Tables.Trees.{Tree}
 use Rattle.parsimony.proofs.Tables.Whole.{δ-inner}
 use Rattle.parsimony.proofs.Tables.First.{entry-means, length-means}
 use Rattle.parsimony.proofs.Tables.Final.{final-means}
-use Rattle.parsimony.proofs.Tables.Chosen.{acctran, deltran, reconstructs, one_way}
-use Rattle.parsimony.proofs.Ranges.Distances.{range_same, away_is, in_range, off}
+use Rattle.parsimony.proofs.Tables.Chosen.{acctran, deltran, reconstructs}
+use Rattle.parsimony.proofs.Ranges.Distances.{range_same, away_is, in_range}
 use Rattle.parsimony.proofs.Ranges.Chains.{inner}
 use Rattle.parsimony.proofs.Ranges.Laws.{ordered_laws, straight}
 use Rattle.parsimony.proofs.Ranges.Joins.{join-two, cost-two}

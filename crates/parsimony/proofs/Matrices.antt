@@ -1,7 +1,7 @@
 -- The layout of a matrix: which place is whose, and what a cell holds after one is written.
 -- Assumes nothing.
-use mathlib.Core.Path.{◌≡◌, refl, sym, ◌∙◌, ap}
-use mathlib.Core.Logic.{◌≢◌, ◌⊎◌, inl, inr, ⊎_elim}
+use mathlib.Core.Path.{◌≡◌, ◌∙◌, ap}
+use mathlib.Core.Logic.{◌≢◌, ◌⊎◌, ⊎_elim}
 use mathlib.Core.List.{List}
 use Prim.Native.Nat.{ℕ, suc, ◌+◌, ◌-◌, ◌*◌, ◌≤◌, ◌<◌}
 use native.Mathlib.Nat.{suc-mul, mul-le-mul_right}
@@ -9,7 +9,7 @@ use native.Mathlib.Decide.{dec_le}
 use native.Mathlib.Omega.{arith}
 use lib.ListN.{length, get_or, set}
 use lib.Seq.{get_or-set_same, get_or-set_other}
-use Rattle.parsimony.specs.Matrix.{cell_at, state_of}
+use Rattle.parsimony.specs.Matrix.{state_of}
 
 -- the cell of a row and a column, counted from 0, is one of the matrix
 pub cell_in : (n c t j : ℕ) → t < n → j < c → t * c + j < n * c

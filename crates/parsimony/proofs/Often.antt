@@ -1,6 +1,6 @@
 -- How often a number stands in a list, by the places of the list.
 -- Assumes nothing.
-use mathlib.Core.Path.{◌≡◌, refl, sym, ◌∙◌, ap}
+use mathlib.Core.Path.{◌≡◌, refl, ◌∙◌, ap}
 use mathlib.Core.Logic.{◌≢◌}
 use mathlib.Core.List.{List, [], ◌∷◌, ◌++◌}
 use Prim.Native.Nat.{ℕ, zero, suc, ◌+◌, ◌≤◌, ◌<◌}
@@ -9,23 +9,7 @@ use native.Mathlib.Omega.{arith}
 use lib.ListN.{length, get_or, take}
 use lib.Seq.{get_or-take}
 use Rattle.parsimony.specs.Lists.{sum, from, same}
-use Rattle.parsimony.proofs.Sums.{
-  All,
-  often,
-  often-once,
-  often-below,
-  often_beyond,
-  same_self,
-  same-apart,
-  same_equal,
-  same_sym,
-  sum-add,
-  sum-append,
-  sum_small,
-  sum-zero,
-  all_from,
-  length_from,
-}
+use Rattle.parsimony.proofs.Sums.{All, often, often-once, often-below, often_beyond, same_self, same-apart, same_sym, sum-add, sum-append, sum_small, sum-zero, all_from, length_from}
 
 -- one more at the end
 pub often_snoc : (ks : List ℕ) (a v : ℕ) → often (ks ++ (a ∷ [])) v ≡ often ks v + same a v

@@ -2,22 +2,21 @@
 -- The first part holds for any kind of character that keeps the laws of specs/Kind.antt, any table that is a tree, any number of branches and
 -- any cells. The second part is for ordered characters over the integers.
 -- Assumes nothing.
-use mathlib.Core.Path.{◌≡◌, refl, sym, ◌∙◌}
+use mathlib.Core.Path.{◌≡◌}
 use mathlib.Core.Logic.{◌≢◌, ◌↔◌}
 use mathlib.Core.List.{List, [], ◌∷◌}
 use Prim.Native.Nat.{ℕ, suc, ◌+◌, ◌-◌, ◌≤◌, ◌<◌, min, max}
 use native.Mathlib.Omega.{arith}
 use lib.ListN.{length, get_or}
-use lib.IntN.{ℤ, pos}
-use Rattle.parsimony.specs.Lists.{sum, from}
-use Rattle.parsimony.specs.Table.{ancestor, descendants, climb, below, IsTree}
+use lib.IntN.{ℤ}
+use Rattle.parsimony.specs.Table.{climb, below, IsTree}
 use Rattle.parsimony.specs.Kind.{Kind, Laws, In}
-use Rattle.parsimony.specs.Ordered.{distance, Range, span, point, Between, nearest, away, ends, sorted, join, cost, ordered}
-use Rattle.parsimony.specs.Way.{Agrees, AgreesBelow, length_of, length_below}
+use Rattle.parsimony.specs.Ordered.{distance, Range, span, Between, nearest, ends, sorted, ordered}
+use Rattle.parsimony.specs.Way.{AgreesBelow, length_of, length_below}
 use Rattle.parsimony.specs.Least.{IsLeast, Used}
 use Rattle.parsimony.specs.Meaning.{EntryMeans, FinalMeans, LengthMeans, Reconstructs}
 use Rattle.parsimony.specs.Steps.{Settled, FirstPass, SecondPass, final, length_by, Chosen, RootChosen}
-use Rattle.parsimony.specs.Character.{at_node, cells}
+use Rattle.parsimony.specs.Character.{cells}
 use Rattle.parsimony.specs.Index.{m}
 use Rattle.parsimony.proofs.Tables.Trees as trees
 use Rattle.parsimony.proofs.Tables.Trees.{Tree}

@@ -1,9 +1,9 @@
 -- What has a meaning has it alone: one least length, one region of states used.
 -- Assumes nothing.
-use mathlib.Core.Path.{◌≡◌, refl, sym, ◌∙◌, ap}
+use mathlib.Core.Path.{◌≡◌, refl, ap}
 use mathlib.Core.Logic.{◌↔◌}
 use mathlib.Core.List.{List}
-use Prim.Native.Nat.{ℕ, ◌≤◌, max}
+use Prim.Native.Nat.{ℕ, ◌≤◌}
 use native.Mathlib.Omega.{arith}
 use lib.IntN.{ℤ, pos}
 use Rattle.parsimony.specs.Kind.{Kind, In}

@@ -1,7 +1,7 @@
 -- One ordered character whose taxa have one state each, as a program has it: `state k` is the state of the taxon k, and a list has an entry for
 -- each interior node, the node n + 1 first.
 -- Assumes nothing.
-use Rattle.std.specs.Prelude.{◌≡◌, List, ℕ, suc, ◌-◌, ◌≤◌, ◌<◌, length, get_or, ℤ, pos}
+use Rattle.std.specs.Prelude.{List, ℕ, suc, ◌-◌, ◌≤◌, ◌<◌, length, get_or, ℤ, pos}
 use Rattle.std.proofs.Math.Decide.{dec_le}
 use Rattle.parsimony.specs.Lists.{choose}
 use Rattle.parsimony.specs.Ordered.{Range, span, point, ordered}

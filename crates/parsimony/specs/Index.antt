@@ -1,6 +1,6 @@
 -- The indices of an ordered character whose taxa have one state each. `state k` is the state of the taxon k.
 -- Assumes nothing.
-use Rattle.std.specs.Prelude.{List, [], ◌∷◌, Bool, true, false, ℕ, zero, suc, ◌+◌, ◌-◌, min, max, eqb, ltb, pos}
+use Rattle.std.specs.Prelude.{List, [], ◌∷◌, Bool, true, false, ℕ, ◌-◌, min, max, eqb, ltb, pos}
 use Rattle.parsimony.specs.Lists.{sum, from}
 use Rattle.parsimony.specs.Ordered.{distance}
 

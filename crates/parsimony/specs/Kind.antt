@@ -1,7 +1,7 @@
 -- A kind of character: its states and how far apart they are; its regions, which are sets of states; and the join of regions with its cost.
 -- Ordered characters are one kind (Ordered.antt). Everything that is proved of trees is proved from the laws below.
 -- Assumes nothing.
-use Rattle.std.specs.Prelude.{◌≡◌, List, [], ◌∷◌, ℕ, ◌+◌, ◌≤◌}
+use Rattle.std.specs.Prelude.{◌≡◌, List, ◌∷◌, ℕ, ◌+◌, ◌≤◌}
 use Rattle.parsimony.specs.Lists.{sum}
 
 pub record Kind : Type 1 where

@@ -1,6 +1,6 @@
 -- Sums over lists, runs of numbers, and a test for equal numbers. Nothing here speaks of trees.
 -- Assumes nothing.
-use Rattle.std.specs.Prelude.{◌≡◌, List, [], ◌∷◌, ℕ, zero, suc, ◌+◌}
+use Rattle.std.specs.Prelude.{List, [], ◌∷◌, ℕ, zero, suc, ◌+◌}
 use Rattle.std.proofs.Math.Decide.{ℕ_discrete}
 
 -- the sum of g over a list

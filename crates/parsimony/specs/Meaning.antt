@@ -1,7 +1,7 @@
 -- What an entry of the first pass, a final region, a character's length and a reconstruction mean.
 -- The steps that find them are in Steps.antt; that they find what is meant is in proofs/Theorems.antt.
 -- Assumes nothing.
-use Rattle.std.specs.Prelude.{◌≡◌, ◌↔◌, List, ℕ}
+use Rattle.std.specs.Prelude.{◌↔◌, List, ℕ}
 use Rattle.parsimony.specs.Kind.{Kind, In}
 use Rattle.parsimony.specs.Way.{Agrees, AgreesBelow, length_of, length_below}
 use Rattle.parsimony.specs.Least.{IsLeast, Shortest, Used}

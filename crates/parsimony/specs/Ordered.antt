@@ -1,7 +1,7 @@
 -- Ordered characters: a state is an integer, the change between two is their difference, and a region is a range of states.
 -- The states of taxa are natural numbers, and so are the ends of every range; a way may give any integer to an interior node.
 -- Assumes nothing.
-use Rattle.std.specs.Prelude.{◌≡◌, List, [], ◌∷◌, ℕ, zero, suc, ◌+◌, ◌-◌, ◌≤◌, min, max, length, get_or, ℤ, pos, negsuc, nat_abs, ◌-ℤ◌}
+use Rattle.std.specs.Prelude.{◌≡◌, List, [], ◌∷◌, ℕ, ◌-◌, ◌≤◌, min, max, length, get_or, ℤ, pos, negsuc, nat_abs, ◌-ℤ◌}
 use Rattle.std.proofs.Common.{arith}
 use Rattle.parsimony.specs.Lists.{sum}
 use Rattle.parsimony.specs.Kind.{Kind}

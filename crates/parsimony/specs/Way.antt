@@ -1,6 +1,6 @@
 -- A way is a state for every node: the paper's reconstruction. Its length is the plain sum of the paper's equation (2).
 -- Assumes nothing.
-use Rattle.std.specs.Prelude.{◌≡◌, List, ℕ, zero, suc, ◌+◌, ◌*◌, ◌≤◌}
+use Rattle.std.specs.Prelude.{List, ℕ, zero, suc, ◌*◌, ◌≤◌}
 use Rattle.parsimony.specs.Lists.{sum}
 use Rattle.parsimony.specs.Table.{ancestor, nodes, below}
 use Rattle.parsimony.specs.Kind.{Kind, In}

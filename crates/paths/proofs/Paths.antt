@@ -1,16 +1,15 @@
 -- The path from a node to the root: its length is the number of interior nodes between them, and how a loop lists it.
 -- Assumes nothing.
 use mathlib.Core.Path.{◌≡◌, refl, sym, ◌∙◌, ap, subst}
-use mathlib.Core.Logic.{◌≢◌}
 use mathlib.Core.List.{List, [], ◌∷◌}
-use Prim.Native.Nat.{ℕ, zero, suc, ◌+◌, ◌-◌, ◌*◌, ◌≤◌, ◌<◌}
+use Prim.Native.Nat.{ℕ, zero, suc, ◌+◌, ◌-◌, ◌≤◌, ◌<◌}
 use native.Mathlib.Decide.{ℕ_discrete, dec_le}
 use native.Mathlib.Numerals.{add-one}
 use native.Mathlib.Omega.{arith}
 use lib.ListN.{length, get_or, set, length-set}
 use lib.Seq.{sets}
 use Rattle.parsimony.specs.Lists.{sum, from, choose, same}
-use Rattle.parsimony.specs.Table.{ancestor, descendants, climb, meets, below, between, Accepted}
+use Rattle.parsimony.specs.Table.{ancestor, descendants, climb, meets, below, between}
 use Rattle.parsimony.proofs.Sums.{
   all_from,
   choose_yes,
@@ -24,9 +23,9 @@ use Rattle.parsimony.proofs.Sums.{
   same-apart,
   length_from,
 }
-use Rattle.parsimony.proofs.Tables.Descendants.{past_table, often-descendants}
+use Rattle.parsimony.proofs.Tables.Descendants.{often-descendants}
 use Rattle.parsimony.proofs.Tables.Climbing.{climb-none, climb-add, climb-more, meets-none}
-use Rattle.parsimony.proofs.Tables.Trees.{Tree, out, meets-least, meets-all, below_steps}
+use Rattle.parsimony.proofs.Tables.Trees.{Tree, out, meets-least, below_steps}
 use Rattle.paths.specs.Paths.{path_by, path_of, Pathable, IsPath}
 
 module _ (T : Tree) where

@@ -1,14 +1,14 @@
 -- The ends of a join, by the larger of the low ends and the smaller of the high ends.
 -- Assumes nothing.
-use mathlib.Core.Path.{◌≡◌, refl, sym, ◌∙◌, ap, ap₂}
+use mathlib.Core.Path.{◌≡◌, sym, ◌∙◌, ap, ap₂}
 use mathlib.Core.List.{[], ◌∷◌}
-use Prim.Native.Nat.{ℕ, ◌+◌, ◌-◌, ◌≤◌, min, max}
+use Prim.Native.Nat.{ℕ, ◌-◌, ◌≤◌, min, max}
 use native.Mathlib.Nat.{max-eq_right, max_comm, min_comm}
 use native.Mathlib.Omega.{arith}
 use Rattle.parsimony.specs.Ordered as ordered
 use Rattle.parsimony.proofs.Ranges.Distances.{range_same}
 use Rattle.parsimony.proofs.Ranges.Chains.{outer, inner}
-use Rattle.parsimony.proofs.Ranges.Joins.{join-two, cost-two, join-three, join3}
+use Rattle.parsimony.proofs.Ranges.Joins.{join-two, cost-two, join-three}
 use Rattle.ranges.specs.declared.Range.{Range}
 use Rattle.ranges.specs.Ranges.{range_of, IsRange, Joined}
 

@@ -1,11 +1,11 @@
 -- A list of checks gives one refusal, and none where none applies; and how checks follow one another.
 -- Assumes nothing.
 use mathlib.Core.Path.{◌≡◌, sym, ◌∙◌}
-use mathlib.Core.Logic.{◌≢◌, ◌⊎◌, inl, inr}
+use mathlib.Core.Logic.{◌≢◌, inl, inr}
 use mathlib.Core.List.{List, [], ◌∷◌, ◌++◌}
 use Prim.Native.Nat.{ℕ, suc}
 use Rattle.refusals.specs.declared.Refusal.{Refusal}
-use Rattle.refusals.specs.Search.{Lowest, Never}
+use Rattle.refusals.specs.Search.{Never}
 use Rattle.refusals.specs.Checks.{Check, at, lowest, Clear, Refuses, Passes, Slice, slices}
 use Rattle.refusals.proofs.Laws.{lowest-one, lowest_never}
 

@@ -1,7 +1,7 @@
 -- The root of a tree table, a definition for each sentence of document 01's refusal 3; and what the searches for the root and for its descendant ask
 -- and find.
 -- Assumes nothing.
-use Rattle.std.specs.Prelude.{◌≡◌, ◌⊎◌, List, ℕ, ◌+◌, ◌≤◌, ◌<◌, length}
+use Rattle.std.specs.Prelude.{◌≡◌, ◌⊎◌, List, ℕ, ◌≤◌, ◌<◌, length}
 use Rattle.parsimony.specs.Table.{ancestor}
 use Rattle.refusals.specs.Search.{Lowest, Never}
 use Rattle.roots.specs.declared.Root.{Root}

@@ -7,13 +7,12 @@ use Prim.Native.Nat.{ℕ, zero, suc, ◌+◌, ◌-◌, ◌*◌, ◌≤◌, ◌<�
 use native.Mathlib.Decide.{ℕ_discrete, dec_le}
 use native.Mathlib.Numerals.{add-one}
 use native.Mathlib.Omega.{arith}
-use lib.ListN.{length, get_or, set, length-set, length-append}
-use lib.Seq.{get_or-set_same, get_or-set_other, get_or-append_seam}
+use lib.ListN.{length, get_or, set, length-set}
+use lib.Seq.{get_or-set_same, get_or-set_other}
 use Rattle.parsimony.specs.Lists.{from, choose}
-use Rattle.parsimony.specs.Table.{ancestor, nodes, having, descendants}
+use Rattle.parsimony.specs.Table.{ancestor, having, descendants}
 use Rattle.parsimony.specs.Character.{at_node}
 use Rattle.parsimony.proofs.Sums.{All, all_from, from_more, choose_yes, choose_no}
-use Rattle.parsimony.proofs.Tables.Descendants.{Descends}
 use Rattle.shapes.specs.Shape.{Filled}
 use Rattle.shapes.specs.Filling.{first_of, left_with, right_with, Fillable}
 use Rattle.parsimony.proofs.Tables.Descendants.{entry_at}

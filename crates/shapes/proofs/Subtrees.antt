@@ -1,6 +1,6 @@
 -- The subtree of a node with two descendants: the node itself, and the subtrees of the two, which have nothing in common.
 -- Assumes nothing.
-use mathlib.Core.Path.{◌≡◌, refl, sym, ◌∙◌, ap, subst}
+use mathlib.Core.Path.{◌≡◌, refl, sym, ap, subst}
 use mathlib.Core.Logic.{◌≢◌}
 use mathlib.Core.List.{List, [], ◌∷◌}
 use Prim.Native.Nat.{ℕ, zero, suc, ◌+◌, ◌-◌, ◌≤◌, ◌<◌}
@@ -9,7 +9,7 @@ use native.Mathlib.Omega.{arith}
 use lib.ListN.{length}
 use Rattle.parsimony.specs.Lists.{sum, from, same}
 use Rattle.parsimony.specs.Table.{ancestor, descendants, deep}
-use Rattle.parsimony.proofs.Sums.{All, often, often-once, same_self, same-apart, same_equal, same_sym, sum-add, sum_small, all_from, length_from}
+use Rattle.parsimony.proofs.Sums.{All, often, often-once, same_self, same-apart, same_equal, same_sym, sum_small, all_from, length_from}
 use Rattle.parsimony.proofs.Tables.Descendants.{Descends, each_descends, often-descendants}
 use Rattle.parsimony.proofs.Tables.Climbing.{meets-descendants, deeper, deep-most}
 use Rattle.parsimony.proofs.Tables.Trees.{Tree, out, meets-all, meets-least, meets-root}

@@ -1,16 +1,16 @@
 -- From a search that found a fault to its refusal, and from searches that found nothing to an accepted table.
 -- Assumes nothing.
-use mathlib.Core.Path.{◌≡◌, refl, sym, ◌∙◌, ap, subst}
-use mathlib.Core.Logic.{◌≢◌, ◌⊎◌, inl, inr}
+use mathlib.Core.Path.{◌≡◌, refl, sym, ◌∙◌, ap}
+use mathlib.Core.Logic.{◌≢◌, inl, inr}
 use mathlib.Core.List.{List, [], ◌∷◌}
-use Prim.Native.Nat.{ℕ, zero, suc, ◌+◌, ◌-◌, ◌*◌, ◌≤◌, ◌<◌}
+use Prim.Native.Nat.{ℕ, zero, suc, ◌≤◌, ◌<◌}
 use native.Mathlib.Decide.{ℕ_discrete, dec_le}
 use native.Mathlib.Omega.{arith}
 use lib.ListN.{length}
 use Rattle.parsimony.specs.Lists.{same}
 use Rattle.parsimony.specs.Table as table
 use Rattle.parsimony.specs.Table.{ancestor, descendants, climb}
-use Rattle.parsimony.proofs.Sums.{All, often, same_self, same_equal, same-small}
+use Rattle.parsimony.proofs.Sums.{All, often, same_self, same_equal}
 use Rattle.parsimony.proofs.Tables.Descendants.{past_table, Descends, each_descends, often-descendants}
 use Rattle.refusals.specs.Search.{Lowest, Never}
 use Rattle.refusals.specs.Checks.{Refuses}

@@ -1,7 +1,7 @@
 -- A tree table has one answer: it is accepted, or it is refused with one number and place.
 -- Assumes nothing.
-use mathlib.Core.Path.{◌≡◌, refl, sym, ◌∙◌, ap, ap₂, subst}
-use mathlib.Core.Logic.{◌≢◌, ◌⊎◌, inl, inr, ⊎_elim, ◌↔◌}
+use mathlib.Core.Path.{◌≡◌, sym, ◌∙◌, ap, ap₂, subst}
+use mathlib.Core.Logic.{◌≢◌, inl, inr, ⊎_elim, ◌↔◌}
 use mathlib.Core.List.{List, [], ◌∷◌}
 use Prim.Native.Nat.{ℕ, ◌-◌, ◌*◌, ◌≤◌, ◌<◌}
 use native.Mathlib.Omega.{arith}
@@ -12,14 +12,14 @@ use Rattle.parsimony.proofs.Sums.{often, same_self}
 use Rattle.parsimony.proofs.Tables.Descendants.{often-descendants}
 use Rattle.refusals.specs.declared.Refusal.{Refusal}
 use Rattle.refusals.specs.Search.{Lowest, Never}
-use Rattle.refusals.specs.Checks.{at, Clear, Refuses, Passes}
+use Rattle.refusals.specs.Checks.{Clear, Refuses, Passes}
 use Rattle.refusals.proofs.Laws.{lowest-one, lowest_never}
 use Rattle.refusals.proofs.Order.{Sure, AllSure, sure_at, one-refusal, not_refused, clear_at, clear_slice}
-use Rattle.roots.specs.Roots.{IsRoot, StrayZero, NoZero}
+use Rattle.roots.specs.Roots.{IsRoot, StrayZero}
 use Rattle.faults.specs.Faults.{StrayEntry, WrongCount, Lost}
 use Rattle.trees.specs.declared.TreeAnswer.{TreeAnswer}
 use Rattle.trees.specs.declared.TreeAnswer.TheVariants.{Accepted, Refused}
-use Rattle.trees.specs.Answers.{Sized, TaxaOutside, zeros, rooted, tree_faults, tree_checks, Checks, Answers}
+use Rattle.trees.specs.Answers.{Sized, TaxaOutside, zeros, rooted, tree_faults, tree_checks, Answers}
 
 -- n is within its limits
 pub inside : (n : ℕ) (tree : List ℕ) → 3 ≤ n → n ≤ 256 → TaxaOutside n tree → ⊥

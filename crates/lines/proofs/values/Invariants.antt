@@ -6,7 +6,7 @@ use Rattle.lines.proofs.Laws.{Alike}
 use Rattle.lines.proofs.values.Given as goal
 
 abbrev pub invariant-loop-left : goal.invariant-loop-left
-invariant-loop-left l =     Alike (values_at l.text l.count l.at) l.initial.out l.from (values_at l.text l.left l.i) l.out l.put × (2 * l.put ≤ l.i)
+invariant-loop-left l = Alike (values_at l.text l.count l.at) l.initial.out l.from (values_at l.text l.left l.i) l.out l.put × (2 * l.put ≤ l.i)
 
 abbrev pub decreases-loop-left : goal.decreases-loop-left
 decreases-loop-left l = l.left

@@ -9,9 +9,9 @@ use native.Mathlib.Bridge.{le_prop}
 use native.Mathlib.Decide.{dec_le}
 use native.Mathlib.Omega.{arith}
 use lib.Dec.{T, ltb, ltb→lt, nltb→le}
-use lib.IntN.{ℤ, pos, negsuc, nat_abs, sub_ℕ, ◌-ℤ◌, pos-ne-negsuc}
+use lib.IntN.{ℤ, pos, negsuc, nat_abs, sub_ℕ, pos-ne-negsuc}
 use Rattle.parsimony.specs.Kind.{In}
-use Rattle.parsimony.specs.Ordered.{distance, Range, span, Between, nearest, away, ordered}
+use Rattle.parsimony.specs.Ordered.{distance, Range, Between, nearest, away, ordered}
 
 -- ranges with the same ends are the same
 pub range_same : (r q : Range) → r.low ≡ q.low → r.high ≡ q.high → r ≡ q

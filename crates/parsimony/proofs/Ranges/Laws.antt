@@ -1,28 +1,17 @@
 -- Ordered characters keep the laws of a kind, and the nearest state of a range lies between a state and any other of the range.
 -- Assumes nothing.
 use mathlib.Core.Path.{◌≡◌, refl, sym, ◌∙◌, ap}
-use mathlib.Core.List.{List, [], ◌∷◌}
-use Prim.Native.Nat.{ℕ, suc, ◌+◌, ◌-◌, ◌≤◌, max}
+use mathlib.Core.List.{List, ◌∷◌}
+use Prim.Native.Nat.{suc, ◌+◌, ◌-◌, ◌≤◌}
 use native.Mathlib.Nat.{max-eq_right}
 use native.Mathlib.Omega.{arith}
 use lib.ListN.{length, get_or}
-use lib.IntN.{ℤ, pos, negsuc}
+use lib.IntN.{ℤ, pos}
 use Rattle.parsimony.specs.Lists.{sum}
-use Rattle.parsimony.specs.Kind.{Kind, Laws, In, total}
-use Rattle.parsimony.specs.Ordered.{distance, Range, span, nearest, away, ends, sorted, join, cost, ordered}
+use Rattle.parsimony.specs.Kind.{Laws, In, total}
+use Rattle.parsimony.specs.Ordered.{distance, Range, nearest, away, ends, sorted, join, cost, ordered}
 use Rattle.parsimony.proofs.Sums.{sum_cong}
-use Rattle.parsimony.proofs.Ranges.Distances.{
-  range_same,
-  apart,
-  distance_is,
-  apart_self,
-  apart_sym,
-  off,
-  away_is,
-  off-nearest,
-  off_by_way,
-  off_straight,
-}
+use Rattle.parsimony.proofs.Ranges.Distances.{range_same, distance_is, apart_self, apart_sym, off, away_is, off-nearest, off_by_way, off_straight}
 use Rattle.parsimony.proofs.Ranges.Chains.{chain, taken, innermost, sum-chain, nested_chain, innermost_out, innermost_in}
 use Rattle.parsimony.proofs.Ranges.Middles.{sorted_is, sum-sorted, middle}
 

@@ -1,11 +1,10 @@
 -- Ways whose changes are put off. From the top down, each node has a state of its final region that lies between the state above it and the
 -- state of its first region nearest that. Such a way is allowed and of least length: this is why DELTRAN's choice is a shortest way.
 -- Assumes nothing.
-use mathlib.Core.Path.{◌≡◌, ap}
+use mathlib.Core.Path.{◌≡◌}
 use mathlib.Core.List.{List, [], ◌∷◌, ◌++◌, append_assoc}
 use Prim.Native.Nat.{ℕ, ◌+◌, ◌≤◌}
 use native.Mathlib.Omega.{arith}
-use Rattle.parsimony.specs.Lists.{sum}
 use Rattle.parsimony.specs.Kind.{Kind, Laws, In, total}
 use Rattle.parsimony.proofs.Sums.{sum-append}
 use Rattle.parsimony.proofs.Rose.Shapes.{Rose, Roses, tip, node, one, more, top}

@@ -2,11 +2,10 @@
 -- from the top down.
 -- Assumes nothing.
 use mathlib.Core.Path.{◌≡◌, refl, ◌∙◌, ap}
-use mathlib.Core.List.{List, [], ◌∷◌}
 use Prim.Native.Nat.{ℕ, ◌+◌, ◌≤◌}
 use native.Mathlib.Decide.{ℕ_discrete}
 use native.Mathlib.Omega.{arith}
-use Rattle.parsimony.specs.Lists.{sum, choose, same}
+use Rattle.parsimony.specs.Lists.{choose, same}
 use Rattle.parsimony.specs.Kind.{Kind, Laws, In, total}
 use Rattle.parsimony.proofs.Sums.{choose_yes, choose_no, same_self}
 use Rattle.parsimony.proofs.Rose.Shapes.{Rose, Roses, tip, node, one, more, top, count, counts, Distinct, count-top}

@@ -2,10 +2,9 @@
 -- Seen from a node, the tree is the node with its branches and the rest of the tree as one branch more, and the length of a way does not care.
 -- Assumes nothing.
 use mathlib.Core.Path.{◌≡◌, refl, sym, ◌∙◌, ap}
-use mathlib.Core.List.{List, [], ◌∷◌, ◌++◌}
-use Prim.Native.Nat.{ℕ, ◌+◌, ◌≤◌}
+use mathlib.Core.List.{[], ◌∷◌, ◌++◌}
+use Prim.Native.Nat.{ℕ, ◌+◌}
 use native.Mathlib.Omega.{arith}
-use Rattle.parsimony.specs.Lists.{same}
 use Rattle.parsimony.specs.Kind.{Kind, Laws, In}
 use Rattle.parsimony.proofs.Rose.Shapes.{Rose, Roses, tip, node, one, more, top, count, counts, Distinct}
 use Rattle.parsimony.proofs.Rose.Lengths.{region, regions, least, length_in, lengths_in, Allowed, AllAllowed, lower, shortest_in}

@@ -4,9 +4,8 @@ use mathlib.Core.Path.{◌≡◌}
 use mathlib.Core.List.{List, [], ◌∷◌}
 use Prim.Native.Nat.{ℕ, ◌+◌, ◌≤◌}
 use native.Mathlib.Omega.{arith}
-use Rattle.parsimony.specs.Lists.{sum}
 use Rattle.parsimony.specs.Kind.{Kind, Laws, In}
-use Rattle.parsimony.proofs.Rose.Shapes.{Rose, tip, node, one, top, Distinct}
+use Rattle.parsimony.proofs.Rose.Shapes.{tip, node, one, Distinct}
 use Rattle.parsimony.proofs.Rose.Lengths.{region, least, length_in, Allowed, lower, lowers}
 use Rattle.parsimony.proofs.Rose.Painting.{with_top, some_shortest}
 use Rattle.parsimony.proofs.Rose.Reroot.{Up, plug, up_rose, count-plug, off, off-plug, allowed_off, off_allowed, length-plug}

@@ -1,21 +1,20 @@
 -- ACCTRAN's and DELTRAN's choices are ways of least length; and a choice at each node, from the root's state down, is one way and no other.
 -- Assumes nothing.
-use mathlib.Core.Path.{◌≡◌, refl, sym, ◌∙◌, ap, ap₂, subst}
+use mathlib.Core.Path.{◌≡◌, refl, sym, ◌∙◌, ap, subst}
 use mathlib.Core.Logic.{◌≢◌}
 use mathlib.Core.List.{List, [], ◌∷◌, ◌++◌, map}
 use Prim.Native.Nat.{ℕ, zero, suc, ◌+◌, ◌≤◌, ◌<◌}
 use native.Mathlib.Decide.{ℕ_discrete, dec_le}
 use native.Mathlib.Omega.{arith}
 use lib.ListN.{length}
-use Rattle.parsimony.specs.Lists.{sum}
 use Rattle.parsimony.specs.Table.{ancestor, descendants, climb}
 use Rattle.parsimony.specs.Kind.{Kind, Laws, In}
 use Rattle.parsimony.specs.Way.{Agrees, length_of}
 use Rattle.parsimony.specs.Meaning.{Reconstructs}
 use Rattle.parsimony.specs.Steps.{FirstPass, SecondPass, final, length_by, Chosen, RootChosen}
 use Rattle.parsimony.proofs.Sums.{All, all_map}
-use Rattle.parsimony.proofs.Rose.Shapes.{Rose, tip, node, one, count}
-use Rattle.parsimony.proofs.Rose.Lengths.{region, least, length_in, Allowed, Accelerated, all-reach}
+use Rattle.parsimony.proofs.Rose.Shapes.{tip, node, one}
+use Rattle.parsimony.proofs.Rose.Lengths.{region, Allowed, Accelerated, all-reach}
 use Rattle.parsimony.proofs.Rose.Reroot.{◌⊕◌, allowed_off, off_allowed}
 use Rattle.parsimony.proofs.Rose.Delay.{NearestFinal, Ruled, put_off_least, nearest_final_puts_off}
 use Rattle.parsimony.proofs.Tables.Descendants.{Descends, each_descends}

@@ -2,28 +2,14 @@
 -- in as many steps as there are nodes.
 -- Assumes nothing.
 use mathlib.Core.Path.{◌≡◌, refl, sym, ◌∙◌, ap}
-use mathlib.Core.List.{List, [], ◌∷◌}
-use Prim.Native.Nat.{ℕ, zero, suc, ◌+◌, ◌*◌, ◌≤◌, ◌<◌, min}
+use mathlib.Core.List.{List}
+use Prim.Native.Nat.{ℕ, zero, suc, ◌+◌, ◌≤◌, ◌<◌, min}
 use native.Mathlib.Decide.{ℕ_discrete, dec_le}
 use native.Mathlib.Omega.{arith}
 use lib.ListN.{length}
-use Rattle.parsimony.specs.Lists.{sum, from, same}
+use Rattle.parsimony.specs.Lists.{sum, same}
 use Rattle.parsimony.specs.Table.{ancestor, nodes, descendants, climb, meets, deep}
-use Rattle.parsimony.proofs.Sums.{
-  same_self,
-  same-apart,
-  same_equal,
-  same-small,
-  sum-zero,
-  sum-add,
-  often,
-  often-below,
-  often-once,
-  All,
-  all_from,
-  sum_small,
-  length_from,
-}
+use Rattle.parsimony.proofs.Sums.{same_self, same-apart, same-small, sum-zero, sum-add, often-below, often-once, all_from, sum_small, length_from}
 use Rattle.parsimony.proofs.Tables.Descendants.{often-descendants}
 
 module _ (tree : List ℕ) where

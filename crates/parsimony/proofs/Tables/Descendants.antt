@@ -7,7 +7,7 @@ use native.Mathlib.Decide.{ℕ_discrete, dec_le}
 use native.Mathlib.Numerals.{add-one}
 use native.Mathlib.Omega.{arith}
 use lib.ListN.{length, get_or, get_or-eq_default}
-use Rattle.parsimony.specs.Lists.{sum, from, choose, same}
+use Rattle.parsimony.specs.Lists.{sum, choose, same}
 use Rattle.parsimony.specs.Table.{ancestor, nodes, having, descendants}
 use Rattle.parsimony.proofs.Sums.{All, often, same-apart, same_swap, often-once, all_from}
 

@@ -3,11 +3,11 @@
 use mathlib.Core.Path.{◌≡◌, refl, sym, ◌∙◌, ap, ap₂, subst}
 use mathlib.Core.Logic.{◌≢◌, ◌↔◌}
 use mathlib.Core.List.{List, [], ◌∷◌, ◌++◌, map}
-use Prim.Native.Nat.{ℕ, ◌+◌, ◌≤◌, ◌<◌}
+use Prim.Native.Nat.{ℕ, ◌≤◌, ◌<◌}
 use native.Mathlib.Decide.{ℕ_discrete, dec_le}
 use native.Mathlib.Omega.{arith}
 use lib.ListN.{length}
-use Rattle.parsimony.specs.Lists.{choose, same, without}
+use Rattle.parsimony.specs.Lists.{choose, without}
 use Rattle.parsimony.specs.Table.{ancestor, descendants, sisters}
 use Rattle.parsimony.specs.Kind.{Kind, Laws, In}
 use Rattle.parsimony.specs.Way.{Agrees, length_of}
@@ -15,15 +15,15 @@ use Rattle.parsimony.specs.Least.{Used}
 use Rattle.parsimony.specs.Meaning.{FinalMeans}
 use Rattle.parsimony.specs.Steps.{FirstPass, SecondPass, final}
 use Rattle.parsimony.proofs.Sums.{All, all_middle, often, same-small, same-apart, choose_no, without_middle}
-use Rattle.parsimony.proofs.Rose.Shapes.{Rose, Roses, tip, node, one, top, count, counts, Distinct}
-use Rattle.parsimony.proofs.Rose.Lengths.{region, regions, least, length_in, Allowed}
+use Rattle.parsimony.proofs.Rose.Shapes.{Rose, Roses, tip, node, one, top, count, Distinct}
+use Rattle.parsimony.proofs.Rose.Lengths.{region, least, length_in, Allowed}
 use Rattle.parsimony.proofs.Rose.Reroot.{Up, plug, up_rose, final_at, final-joins, final_only, final-all, regions_⊕}
 use Rattle.parsimony.proofs.Tables.Descendants.{Descends, each_descends, often-descendants}
 use Rattle.parsimony.proofs.Tables.Trees.{Tree, δ-ancestor, δ-some, δ-most}
-use Rattle.parsimony.proofs.Tables.Fitting.{tops, Fits, in_tree}
+use Rattle.parsimony.proofs.Tables.Fitting.{Fits, in_tree}
 use Rattle.parsimony.proofs.Tables.Settling.{all_settled}
 use Rattle.parsimony.proofs.Tables.Whole.{δ-inner, crown, crown_fits, whole, each-once, whole_distinct}
-use Rattle.parsimony.proofs.Tables.Places.{Sees, Known, Found, stands_in}
+use Rattle.parsimony.proofs.Tables.Places.{Sees, Known, stands_in}
 use Rattle.parsimony.proofs.Tables.Ways.{whole-used, whole-answers}
 use Rattle.parsimony.proofs.Tables.First.{inner-apart, made_at, made_in}
 

@@ -1,20 +1,20 @@
 -- What the first pass means: the paper's Basic Lemma, Theorem 1, Corollary 1.1 and equation (16), of a table.
 -- Assumes nothing.
-use mathlib.Core.Path.{◌≡◌, refl, sym, ◌∙◌, ap, subst, subst₂}
-use mathlib.Core.Logic.{◌≢◌, ◌↔◌}
+use mathlib.Core.Path.{◌≡◌, sym, ◌∙◌, ap, subst, subst₂}
+use mathlib.Core.Logic.{◌≢◌}
 use mathlib.Core.List.{List, [], ◌∷◌, map}
 use Prim.Native.Nat.{ℕ, ◌+◌, ◌≤◌, ◌<◌}
 use native.Mathlib.Decide.{dec_le}
 use native.Mathlib.Omega.{arith}
 use lib.ListN.{length}
 use Rattle.parsimony.specs.Lists.{sum}
-use Rattle.parsimony.specs.Table.{ancestor, descendants}
-use Rattle.parsimony.specs.Kind.{Kind, Laws, In}
+use Rattle.parsimony.specs.Table.{descendants}
+use Rattle.parsimony.specs.Kind.{Kind, Laws}
 use Rattle.parsimony.specs.Way.{Agrees, AgreesBelow, length_of, length_below}
-use Rattle.parsimony.specs.Least.{IsLeast, Shortest, Used}
+use Rattle.parsimony.specs.Least.{IsLeast}
 use Rattle.parsimony.specs.Meaning.{EntryMeans, LengthMeans}
-use Rattle.parsimony.specs.Steps.{Settled, FirstPass, length_by}
-use Rattle.parsimony.proofs.Rose.Shapes.{Rose, Roses, tip, node, top, count, Distinct}
+use Rattle.parsimony.specs.Steps.{FirstPass, length_by}
+use Rattle.parsimony.proofs.Rose.Shapes.{Rose, Roses, node, top, count, Distinct}
 use Rattle.parsimony.proofs.Rose.Lengths.{region, least}
 use Rattle.parsimony.proofs.Rose.Tips.{least-both}
 use Rattle.parsimony.proofs.Tables.Trees.{Tree, δ-most}

@@ -4,13 +4,13 @@
 use mathlib.Core.Path.{◌≡◌, refl, sym, ◌∙◌, ap, ap₂, subst}
 use mathlib.Core.Logic.{◌≢◌}
 use mathlib.Core.List.{List, [], ◌∷◌, map}
-use Prim.Native.Nat.{ℕ, zero, suc, ◌+◌, ◌≤◌, ◌<◌, min}
+use Prim.Native.Nat.{ℕ, zero, suc, ◌+◌, ◌≤◌, ◌<◌}
 use native.Mathlib.Decide.{dec_le}
 use native.Mathlib.Omega.{arith}
 use lib.ListN.{length}
 use Rattle.parsimony.specs.Lists.{sum, same}
 use Rattle.parsimony.specs.Table.{ancestor, descendants, meets, below, deep}
-use Rattle.parsimony.proofs.Sums.{All, all_map, same-apart}
+use Rattle.parsimony.proofs.Sums.{All, all_map}
 use Rattle.parsimony.proofs.Rose.Shapes.{Rose, Roses, tip, node, one, more, top, count, counts, Distinct}
 use Rattle.parsimony.proofs.Tables.Descendants.{past_table, Descends, each_descends}
 use Rattle.parsimony.proofs.Tables.Climbing.{deep-most, deeper, meets-descendants}

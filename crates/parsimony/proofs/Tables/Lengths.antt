@@ -2,7 +2,7 @@
 -- where each node without descendants has a state of its cell.
 -- Assumes nothing.
 use mathlib.Core.Path.{◌≡◌, refl, sym, ◌∙◌, ap, subst}
-use mathlib.Core.List.{List, [], ◌∷◌}
+use mathlib.Core.List.{List, []}
 use Prim.Native.Nat.{ℕ, zero, suc, ◌+◌, ◌*◌, ◌≤◌, min}
 use native.Mathlib.Decide.{dec_le}
 use native.Mathlib.Omega.{arith}

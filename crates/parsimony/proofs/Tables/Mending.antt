@@ -9,7 +9,7 @@ use native.Mathlib.Decide.{dec_le}
 use native.Mathlib.Omega.{arith}
 use lib.ListN.{length}
 use Rattle.parsimony.specs.Lists.{sum, same}
-use Rattle.parsimony.specs.Table.{ancestor, descendants, meets, below, IsTree}
+use Rattle.parsimony.specs.Table.{descendants, meets, below}
 use Rattle.parsimony.specs.Kind.{Kind}
 use Rattle.parsimony.specs.Steps.{Settled, FirstPass}
 use Rattle.parsimony.proofs.Sums.{All, all_map, all-zero, same_self}

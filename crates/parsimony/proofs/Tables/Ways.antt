@@ -2,19 +2,18 @@
 -- least and used in the table.
 -- Assumes nothing.
 use mathlib.Core.Path.{◌≡◌, refl, sym, ◌∙◌, ap, subst}
-use mathlib.Core.Logic.{◌≢◌, ◌↔◌}
-use mathlib.Core.List.{List, [], ◌∷◌}
-use Prim.Native.Nat.{ℕ, ◌+◌, ◌*◌, ◌≤◌, ◌<◌}
+use mathlib.Core.Logic.{◌↔◌}
+use mathlib.Core.List.{[]}
+use Prim.Native.Nat.{ℕ, ◌+◌, ◌≤◌, ◌<◌}
 use native.Mathlib.Decide.{ℕ_discrete, dec_le}
 use native.Mathlib.Omega.{arith}
 use lib.ListN.{length}
-use Rattle.parsimony.specs.Lists.{same}
 use Rattle.parsimony.specs.Table.{descendants, below}
 use Rattle.parsimony.specs.Kind.{Kind, Laws, In}
 use Rattle.parsimony.specs.Way.{Agrees, AgreesBelow, length_of, length_below}
-use Rattle.parsimony.specs.Least.{IsLeast, Shortest, Used}
+use Rattle.parsimony.specs.Least.{IsLeast, Used}
 use Rattle.parsimony.proofs.Sums.{same-apart}
-use Rattle.parsimony.proofs.Rose.Shapes.{Rose, Roses, tip, node, one, top, count, counts, Distinct}
+use Rattle.parsimony.proofs.Rose.Shapes.{Roses, node, one, count, counts}
 use Rattle.parsimony.proofs.Rose.Lengths.{region, least, length_in, Allowed, lower}
 use Rattle.parsimony.proofs.Rose.Painting.{Answers, answers}
 use Rattle.parsimony.proofs.Rose.Reroot.{off, allowed_off, off_allowed}

@@ -2,9 +2,8 @@
 -- at the root's descendant as elsewhere.
 -- Assumes nothing.
 use mathlib.Core.Path.{◌≡◌, refl, sym, ◌∙◌, ap}
-use mathlib.Core.Logic.{◌≢◌}
-use mathlib.Core.List.{List, [], ◌∷◌}
-use Prim.Native.Nat.{ℕ, zero, suc, ◌+◌, ◌≤◌, ◌<◌, min}
+use mathlib.Core.List.{[], ◌∷◌}
+use Prim.Native.Nat.{ℕ, suc, ◌+◌, ◌≤◌, ◌<◌}
 use native.Mathlib.Decide.{dec_le}
 use native.Mathlib.Omega.{arith}
 use lib.ListN.{length}
@@ -14,25 +13,9 @@ use Rattle.parsimony.specs.Kind.{Kind, Laws}
 use Rattle.parsimony.proofs.Sums.{same-apart}
 use Rattle.parsimony.proofs.Rose.Shapes.{Rose, Roses, tip, node, one, more, top, count, Distinct}
 use Rattle.parsimony.proofs.Rose.Lengths.{length_in}
-use Rattle.parsimony.proofs.Rose.Reroot.{
-  ◌⊕◌,
-  Place,
-  before,
-  after,
-  past,
-  fill,
-  rest,
-  Up,
-  root,
-  plug,
-  up_rose,
-  count-plug,
-  off,
-  off-plug,
-  length-plug,
-}
+use Rattle.parsimony.proofs.Rose.Reroot.{◌⊕◌, Place, after, past, fill, rest, Up, plug, up_rose, count-plug, off, off-plug, length-plug}
 use Rattle.parsimony.proofs.Tables.Trees.{Tree, meets-root, δ-some, δ-most, δ-apart}
-use Rattle.parsimony.proofs.Tables.Fitting.{tops, Fits, count_meets, distinct, tree_of}
+use Rattle.parsimony.proofs.Tables.Fitting.{Fits, count_meets, distinct, tree_of}
 
 -- the place behind all of a list
 abbrev behind : Roses → Place

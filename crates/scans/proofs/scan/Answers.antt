@@ -2,7 +2,6 @@ use Rattle.std.proofs.Common.{rules}
 use native.Mathlib.Omega.{arith}
 use mathlib.Core.Path.{◌≡◌, sym, ◌∙◌}
 use mathlib.Core.Logic.{⊎_elim}
-use borrow.Author.Tests.{ltb-true, ltb-false}
 use Rattle.numbers.specs.declared.Parsed.TheVariants.{Value}
 use Rattle.lines.specs.Lines.{head_at}
 use Rattle.lines.proofs.Reach.{head_reach}
