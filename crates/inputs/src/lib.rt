@@ -5,29 +5,22 @@ ghost use Rattle.std.specs.Prelude.{◌<◌, ◌≤◌, length, take, IfOk};
 ghost use Rattle.std.specs.Io.KnownBytes.{Consumes, IsAtEnd};
 
 use std::io;
-use std::io::{ErrorKind, Read};
+use std::io::Read;
 
-// How many bytes were read, which stand at the front of the slice; fewer than it has only where the input ends. A read that a signal interrupts is
-// made again, and any other that fails ends the call with its error.
+// How many bytes were read, which stand at the front of the slice; fewer than it has only where the input ends. A read that fails ends the call with
+// its error.
 pub fn read_full<R: Read>(input: &mut R, text: &mut [u8]) -> io::Result<usize>
     ensures within { IfOk result (λ n. n ≤ length text.new) }
     ensures bytes { IfOk result (λ n. Consumes (R.remaining input.old) (R.remaining input.new) (take n text.new)) }
     ensures end { IfOk result (λ n. n < length text.new → IsAtEnd (R.remaining input.new)) }
 {
     let mut size = 0;
-    for _ in 0..u64::MAX {
-        if size == text.len() {
+    while size < text.len() {
+        let n = input.read(&mut text[size..])?;
+        if n == 0 {
             return Ok(size);
         }
-        match input.read(&mut text[size..]) {
-            Ok(0) => return Ok(size),
-            Ok(n) => size += n,
-            Err(error) => {
-                if error.kind() != ErrorKind::Interrupted {
-                    return Err(error);
-                }
-            }
-        }
+        size += n;
     }
-    Err(io::Error::from(ErrorKind::Interrupted))
+    Ok(size)
 }
