@@ -4,21 +4,21 @@
 use mathlib.Core.Path.{◌≡◌, refl, sym, ◌∙◌, ap, ap₂, subst}
 use mathlib.Core.Logic.{◌≢◌, ◌⊎◌, inl, inr}
 use mathlib.Core.List.{List, [], ◌∷◌, map}
-use Prim.Native.Nat.{ℕ, suc, ◌+◌, ◌-◌, ◌*◌, ◌≤◌, ◌<◌, min, max}
+use Prim.Native.Nat.{ℕ, suc, ◌+◌, ◌-◌, ◌≤◌, ◌<◌}
 use native.Mathlib.Decide.{ℕ_discrete, dec_le}
 use native.Mathlib.Omega.{arith}
 use lib.ListN.{length, get_or}
 use Rattle.parsimony.specs.Lists.{sum, same}
-use Rattle.parsimony.specs.Table.{ancestor, descendants, deep, Accepted}
+use Rattle.parsimony.specs.Table.{descendants, deep}
 use Rattle.parsimony.specs.Ordered as ordered
 use Rattle.parsimony.specs.Ordered.{span}
 use Rattle.parsimony.specs.Steps.{Settled}
 use Rattle.parsimony.specs.Matrix.{state_of}
-use Rattle.parsimony.proofs.Sums.{All, all_map, same_self, same_equal, same-apart}
+use Rattle.parsimony.proofs.Sums.{all_map, same_self, same-apart}
 use Rattle.parsimony.proofs.Tables.Trees.{Tree}
 use Rattle.parsimony.proofs.Tables.Mending.{Alike, stays_settled}
 use Rattle.parsimony.proofs.Ranges.Joins.{join-high, cost-high}
-use Rattle.shapes.specs.Shape.{under, inside, Filled}
+use Rattle.shapes.specs.Shape.{under, Filled}
 use Rattle.shapes.proofs.Subtrees as subtrees
 use Rattle.rows.specs.Rows.{range_at, Same, Room, Settleable, SettledRow}
 use Rattle.blocks.specs.Blocks.{Fits, Walks, WalkedIn}

@@ -1,11 +1,10 @@
 -- What the steps leave of one character has its meaning.
 -- Assumes nothing.
-use mathlib.Core.Path.{◌≡◌, refl, sym, ◌∙◌, ap, subst}
+use mathlib.Core.Path.{◌≡◌, sym, ◌∙◌, subst}
 use mathlib.Core.List.{List}
-use Prim.Native.Nat.{ℕ, ◌+◌, ◌-◌, ◌*◌, ◌≤◌, ◌<◌}
+use Prim.Native.Nat.{ℕ, ◌-◌, ◌≤◌, ◌<◌}
 use native.Mathlib.Omega.{arith}
-use lib.ListN.{length, get_or}
-use Rattle.parsimony.specs.Table.{Accepted}
+use lib.ListN.{length}
 use Rattle.parsimony.specs.Ordered.{ordered}
 use Rattle.parsimony.specs.Way.{length_of}
 use Rattle.parsimony.specs.Meaning.{LengthMeans, Reconstructs}
@@ -13,17 +12,7 @@ use Rattle.parsimony.specs.Steps.{Chosen}
 use Rattle.parsimony.specs.Matrix.{state_of}
 use Rattle.parsimony.specs.Character.{at_node, cells, ranges, way_of}
 use Rattle.parsimony.specs.Index as index
-use Rattle.parsimony.proofs.Characters.{
-  range-inner,
-  way-taxon,
-  Settles,
-  first-means,
-  length_from_entries,
-  length-least,
-  acctran_way,
-  finals_mean,
-  deltran_way,
-}
+use Rattle.parsimony.proofs.Characters.{range-inner, way-taxon, first-means, length_from_entries, length-least, acctran_way, finals_mean, deltran_way}
 use Rattle.parsimony.proofs.Uniqueness.{one-least}
 use Rattle.parsimony.proofs.Tables.Trees.{Tree}
 use Rattle.shapes.specs.Shape.{Filled}
@@ -35,7 +24,7 @@ use Rattle.reconstructions.specs.Reconstructions.{Chooses, list_of}
 use Rattle.choices.specs.declared.Resolve.{Resolve}
 use Rattle.choices.specs.declared.Resolve.TheVariants.{Acctran, Deltran}
 use Rattle.scores.specs.declared.Scores.{Scores}
-use Rattle.scores.specs.Scores.{HasIndices, Results, AllLong, ranges_of, CharacterMeans}
+use Rattle.scores.specs.Scores.{Results, ranges_of, CharacterMeans}
 use Rattle.first_passes.specs.FirstPasses.{Given, BegunIn}
 use Rattle.scores.specs.Steps.{HasScores}
 use Rattle.character_scores.specs.CharacterScores.{GivenOne}

@@ -1,11 +1,9 @@
 -- From the checks to the scores: what a call knows once none of its checks applies.
 -- Assumes nothing.
-use mathlib.Core.Path.{◌≡◌}
 use mathlib.Core.List.{List, []}
-use Prim.Native.Nat.{ℕ, ◌-◌, ◌*◌, ◌≤◌}
+use Prim.Native.Nat.{ℕ, ◌-◌, ◌*◌}
 use native.Mathlib.Omega.{arith}
 use lib.ListN.{length}
-use Rattle.parsimony.specs.Table.{Accepted}
 use Rattle.parsimony.specs.Matrix.{state_of}
 use Rattle.refusals.specs.declared.Refusal.{Refusal}
 use Rattle.refusals.specs.Search.{Never}
@@ -15,12 +13,10 @@ use Rattle.cells.proofs.Reading.{none_above, states-small}
 use Rattle.extents.specs.Extents.{Small}
 use Rattle.totals.specs.Totals.{Given}
 use Rattle.limits.specs.declared.Lent.{Lent}
-use Rattle.limits.specs.declared.Lent.TheVariants.{Exact}
-use Rattle.limits.specs.Limits.{Outside, lent_slices, Told, InLimits}
+use Rattle.limits.specs.Limits.{lent_slices, Told, InLimits}
 use Rattle.limits.proofs.Lending.{exact-clear}
-use Rattle.checks.specs.declared.Admission.{Admission}
 use Rattle.checks.specs.declared.Admission.TheVariants.{Admitted, Refused}
-use Rattle.checks.specs.Calls.{character_checks, cell_checks, matrix_checks, CellsPass, AdmitsCharacter, AdmitsMatrix}
+use Rattle.checks.specs.Calls.{character_checks, matrix_checks, AdmitsCharacter, AdmitsMatrix}
 use Rattle.checks.proofs.Orders.{admissible, rest-passes, character-passes, matrix-passes, character-inside, matrix-inside, sized}
 use Rattle.choices.specs.declared.Resolve.{Resolve}
 use Rattle.scores.specs.declared.Scores.{Scores}

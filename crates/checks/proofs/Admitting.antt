@@ -1,30 +1,25 @@
 -- What the checks after the slices tell, one after the other.
 -- Assumes nothing.
-use mathlib.Core.Path.{◌≡◌, refl, sym, subst}
-use mathlib.Core.Logic.{◌⊎◌, inl, inr, ⊎_elim}
-use mathlib.Core.List.{List, [], ◌∷◌, ◌++◌}
+use mathlib.Core.Path.{◌≡◌, refl, subst}
+use mathlib.Core.Logic.{inl, inr, ⊎_elim}
+use mathlib.Core.List.{List, ◌++◌}
 use Prim.Native.Nat.{ℕ, ◌+◌, ◌-◌, ◌*◌, ◌≤◌, ◌<◌}
 use native.Mathlib.Omega.{arith}
 use native.Mathlib.Nat.{mul-le-mul_right}
-use lib.ListN.{length}
 use Rattle.parsimony.specs.Table as table
-use Rattle.parsimony.specs.Matrix.{cell_number}
 use Rattle.refusals.specs.declared.Refusal.{Refusal}
-use Rattle.refusals.specs.declared.Found.{Found}
-use Rattle.refusals.specs.Search.{Lowest, Never, Finds}
-use Rattle.refusals.specs.Checks.{Check, at, lowest, Clear, Refuses, Passes, Slice, slices}
-use Rattle.refusals.proofs.Order.{refuses_before, refuses_after, clear_at, clear-lowest}
+use Rattle.refusals.specs.Search.{Lowest, Never}
+use Rattle.refusals.specs.Checks.{Check, at, Clear, Refuses, Slice, slices}
+use Rattle.refusals.proofs.Order.{refuses_before, refuses_after, clear_at}
 use Rattle.cells.specs.Above.{AboveAt, AboveIn}
-use Rattle.trees.specs.declared.TreeAnswer.{TreeAnswer}
-use Rattle.trees.specs.declared.TreeAnswer.TheVariants as tree-answer
-use Rattle.trees.specs.Answers.{tree_faults, Checks}
+use Rattle.trees.specs.Answers.{tree_faults}
 use Rattle.trees.proofs.Unique.{accepted-passes}
 use Rattle.limits.specs.declared.Lent.{Lent}
 use Rattle.limits.specs.declared.Lent.TheVariants.{Exact, Wrong}
 use Rattle.limits.specs.Limits.{Told}
 use Rattle.checks.specs.declared.Admission.{Admission}
 use Rattle.checks.specs.declared.Admission.TheVariants.{Admitted, Refused}
-use Rattle.checks.specs.Calls.{NoCharacter, character_cell, cell_checks, all_checks, CellsPass, AdmitsCells, AdmitsAll, AdmitsCharacter, AdmitsMatrix}
+use Rattle.checks.specs.Calls.{NoCharacter, character_cell, cell_checks, all_checks, AdmitsCells, AdmitsAll, AdmitsCharacter, AdmitsMatrix}
 
 abbrev pub refusal : (number place : ℕ) → Refusal
 refusal number place = record { number = number; place = place }

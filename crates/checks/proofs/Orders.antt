@@ -2,25 +2,23 @@
 -- has one place.
 -- Assumes nothing.
 use mathlib.Core.Path.{◌≡◌, refl, sym, ◌∙◌, subst}
-use mathlib.Core.Logic.{◌≢◌, ◌⊎◌, inl, inr}
-use mathlib.Core.List.{List, [], ◌∷◌, ◌++◌}
-use Prim.Native.Nat.{ℕ, ◌+◌, ◌-◌, ◌*◌, ◌≤◌, ◌<◌}
+use mathlib.Core.Logic.{inl, inr}
+use mathlib.Core.List.{List, ◌∷◌, ◌++◌}
+use Prim.Native.Nat.{ℕ, ◌+◌, ◌-◌, ◌*◌}
 use lib.ListN.{length}
 use Rattle.parsimony.specs.Table as table
 use Rattle.refusals.specs.declared.Refusal.{Refusal}
 use Rattle.refusals.specs.Search.{Never}
-use Rattle.refusals.specs.Checks.{Check, at, lowest, Refuses, Passes, Slice, slices}
+use Rattle.refusals.specs.Checks.{Check, at, Refuses, Passes, Slice, slices}
 use Rattle.refusals.proofs.Laws.{lowest-one}
 use Rattle.refusals.proofs.Order.{Sure, AllSure, sure_at, sure_lowest, sure_append, sure_slices, passes_append, clear_at, clear-lowest}
 use Rattle.cells.specs.Above.{AboveAt, AboveIn}
 use Rattle.trees.specs.Answers.{Sized, tree_faults}
 use Rattle.trees.proofs.Unique.{sure_faults, accepted-passes}
 use Rattle.limits.specs.declared.Lent.{Lent}
-use Rattle.limits.specs.declared.Lent.TheVariants.{Exact, Wrong}
+use Rattle.limits.specs.declared.Lent.TheVariants.{Exact}
 use Rattle.limits.specs.Limits.{Outside, lent_slices, Told, InLimits}
 use Rattle.limits.proofs.Lending.{exact-clear, not_outside}
-use Rattle.checks.specs.declared.Admission.{Admission}
-use Rattle.checks.specs.declared.Admission.TheVariants.{Admitted, Refused}
 use Rattle.checks.specs.Calls.{NoCharacter, character_cell, cell_checks, all_checks, character_checks, matrix_checks, Admissible, CellsPass}
 use Rattle.checks.proofs.Admitting.{refusal, clear-character, clear-cell}
 

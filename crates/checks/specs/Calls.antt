@@ -3,7 +3,6 @@
 use Rattle.std.specs.Prelude.{◌≡◌, ◌⊎◌, List, [], ◌∷◌, ◌++◌, ℕ, ◌-◌, ◌*◌, ◌≤◌, ◌<◌, length}
 use Rattle.parsimony.specs.Table as table
 use Rattle.parsimony.specs.Matrix.{cell_number}
-use Rattle.refusals.specs.declared.Refusal.{Refusal}
 use Rattle.refusals.specs.Search.{Lowest, Never}
 use Rattle.refusals.specs.Checks.{Check, at, lowest, Refuses, Slice, slices}
 use Rattle.cells.specs.Above.{AboveAt, AboveIn}

@@ -4,22 +4,21 @@
 use mathlib.Core.Path.{◌≡◌, refl, sym, ◌∙◌, ap, ap₂, subst}
 use mathlib.Core.Logic.{◌≢◌}
 use mathlib.Core.List.{List, [], ◌∷◌, ◌++◌, map}
-use Prim.Native.Nat.{ℕ, zero, suc, ◌+◌, ◌-◌, ◌*◌, ◌≤◌, ◌<◌}
+use Prim.Native.Nat.{ℕ, zero, suc, ◌+◌, ◌-◌, ◌≤◌, ◌<◌}
 use native.Mathlib.Decide.{ℕ_discrete}
 use native.Mathlib.Omega.{arith}
 use lib.ListN.{length, get_or, set, length-set}
-use Rattle.parsimony.specs.Table.{ancestor, descendants, sisters, Accepted}
+use Rattle.parsimony.specs.Table.{ancestor, descendants, sisters}
 use Rattle.parsimony.specs.Ordered as ordered
 use Rattle.parsimony.specs.Ordered.{span, point, ordered}
 use Rattle.parsimony.specs.Matrix.{state_of}
 use Rattle.parsimony.specs.Character.{at_node, cells, ranges}
-use Rattle.parsimony.specs.Steps.{SecondPass, final}
+use Rattle.parsimony.specs.Steps.{final}
 use Rattle.parsimony.proofs.Characters.{entry-written, entry_other}
 use Rattle.parsimony.proofs.Tables.Trees.{Tree, δ-ancestor}
 use Rattle.ranges.specs.declared.Range.{Range}
 use Rattle.ranges.specs.Ranges.{range_of, IsRange}
 use Rattle.shapes.specs.Shape.{Filled}
-use Rattle.orders.specs.Orders.{IsOrder}
 use Rattle.shapes.proofs.Subtrees as subtrees
 use Rattle.nodes.specs.Nodes.{Readable, above_of, Seeing, Seen, Finishing, Finished}
 use Rattle.descents.specs.Descents.{Descends, Finals}

@@ -1,7 +1,7 @@
 -- The searches for a bad entry, one entry after the other, and the marks of a path.
 -- Assumes nothing.
-use mathlib.Core.Path.{◌≡◌, refl, sym, ◌∙◌, ap, subst}
-use mathlib.Core.Logic.{◌≢◌, ◌⊎◌, inl, inr, ⊎_elim}
+use mathlib.Core.Path.{◌≡◌, sym, ◌∙◌, ap, subst}
+use mathlib.Core.Logic.{◌≢◌, inl, inr, ⊎_elim}
 use mathlib.Core.Bool.{Bool, true, false}
 use mathlib.Core.List.{List}
 use Prim.Native.Nat.{ℕ, suc, ◌+◌, ◌-◌, ◌*◌, ◌≤◌, ◌<◌}
@@ -15,7 +15,7 @@ use Rattle.parsimony.proofs.Characters.{entry-written, entry_other}
 use Rattle.refusals.specs.Search.{Lowest, Never, Finds, Tells}
 use Rattle.refusals.specs.declared.Found.{Found}
 use Rattle.refusals.specs.declared.Found.TheVariants.{At, Nowhere}
-use Rattle.tables.specs.Tables.{stretch, TableLong}
+use Rattle.tables.specs.Tables.{stretch}
 use Rattle.tables.proofs.Stretches.{stretch_in, stretch-long}
 use Rattle.entries.specs.Entries.{Bad, BadAt, BadIn, OneCharacter, AllCharacters, FindsEntry, Marks, Marked, Beside, BadMarked, Besides}
 

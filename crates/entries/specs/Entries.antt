@@ -1,6 +1,6 @@
 -- Which kept entries no pass leaves: refusal 10, in one character, in all, and beside the path of a correction.
 -- Assumes nothing.
-use Rattle.std.specs.Prelude.{◌≡◌, ◌≢◌, ◌⊎◌, List, ℕ, suc, ◌+◌, ◌-◌, ◌*◌, ◌≤◌, ◌<◌, length, get_or}
+use Rattle.std.specs.Prelude.{◌≡◌, ◌≢◌, ◌⊎◌, List, ℕ, ◌-◌, ◌*◌, ◌≤◌, ◌<◌, length, get_or}
 use Rattle.parsimony.specs.Table.{ancestor, below}
 use Rattle.parsimony.specs.Character.{at_node}
 use Rattle.refusals.specs.declared.Found.{Found}

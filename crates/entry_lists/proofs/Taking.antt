@@ -1,6 +1,6 @@
 -- One character of a block, taken out one entry after the other.
 -- Assumes nothing.
-use mathlib.Core.Path.{◌≡◌, refl, sym, ◌∙◌, ap, ap₂, subst}
+use mathlib.Core.Path.{◌≡◌, ◌∙◌, ap, ap₂, subst}
 use mathlib.Core.List.{List, [], ◌∷◌}
 use Prim.Native.Nat.{ℕ, suc, ◌+◌, ◌-◌, ◌*◌, ◌≤◌, ◌<◌}
 use native.Mathlib.Decide.{ℕ_discrete}
@@ -10,7 +10,6 @@ use lib.Seq.{get_or-set_same, get_or-set_other}
 use Rattle.parsimony.specs.Ordered as ordered
 use Rattle.parsimony.specs.Ordered.{span}
 use Rattle.parsimony.specs.Matrix.{state_of}
-use Rattle.parsimony.specs.Character.{at_node}
 use Rattle.rows.proofs.Rows.{place_in}
 use Rattle.entry_lists.specs.EntryLists.{Takes, Taken, Ends, length_at}
 

@@ -1,12 +1,10 @@
 -- How high m and g can be where no state is above 9999.
 -- Assumes nothing.
-use mathlib.Core.Path.{◌≡◌, refl, sym, ◌∙◌, ap}
 use mathlib.Core.List.{List}
-use Prim.Native.Nat.{ℕ, ◌+◌, ◌-◌, ◌*◌, ◌≤◌, ◌<◌}
+use Prim.Native.Nat.{ℕ, ◌*◌, ◌≤◌}
 use native.Mathlib.Omega.{arith}
 use native.Mathlib.Nat.{mul-le-mul_right}
 use lib.IntN.{pos}
-use Rattle.parsimony.specs.Lists.{sum, from}
 use Rattle.parsimony.specs.Matrix.{state_of}
 use Rattle.parsimony.specs.Ordered.{distance}
 use Rattle.parsimony.specs.Index as index

@@ -1,15 +1,14 @@
 -- The first pass of one character: a block of one.
 -- Assumes nothing.
-use mathlib.Core.Path.{◌≡◌, refl, sym, ◌∙◌, ap, subst}
+use mathlib.Core.Path.{◌≡◌, sym, subst}
 use mathlib.Core.List.{List}
-use Prim.Native.Nat.{ℕ, ◌+◌, ◌-◌, ◌*◌, ◌≤◌, ◌<◌}
+use Prim.Native.Nat.{ℕ, ◌+◌, ◌-◌, ◌≤◌}
 use native.Mathlib.Omega.{arith}
-use lib.ListN.{length, replicate, length-replicate}
 use Rattle.parsimony.specs.Ordered.{ordered}
 use Rattle.parsimony.specs.Meaning.{LengthMeans}
 use Rattle.parsimony.specs.Steps.{FirstPass}
 use Rattle.parsimony.specs.Matrix.{state_of}
-use Rattle.parsimony.specs.Character.{at_node, cells, ranges, sizes}
+use Rattle.parsimony.specs.Character.{cells, ranges, sizes}
 use Rattle.shapes.specs.Filling.{Orders}
 use Rattle.rows.specs.Rows.{Room}
 use Rattle.passes.specs.Passes.{Passable, Passed}

@@ -1,6 +1,6 @@
 -- A list of corrections, made one after the other: what each does is what the call promises (`Corrects`), and nothing else happens between them.
 -- Assumes nothing.
-use Rattle.std.specs.Prelude.{◌≡◌, List, [], ◌∷◌, ℕ, ◌≤◌}
+use Rattle.std.specs.Prelude.{◌≡◌, List, [], ◌∷◌, ℕ}
 use Rattle.std.proofs.Math.Decide.{dec_le}
 use Rattle.parsimony.specs.Lists.{choose}
 use Rattle.repairs.specs.Repairs.{with_cell}

@@ -1,16 +1,15 @@
 -- What is told of the slices, and of the limits of n and c.
 -- Assumes nothing.
-use mathlib.Core.Path.{◌≡◌, refl, sym, subst}
-use mathlib.Core.Logic.{◌≢◌, ◌⊎◌, inl, inr, ⊎_elim}
-use mathlib.Core.List.{List, [], ◌∷◌}
-use Prim.Native.Nat.{ℕ, suc, ◌≤◌, ◌<◌}
+use mathlib.Core.Path.{◌≡◌, refl}
+use mathlib.Core.Logic.{◌≢◌, inl, inr, ⊎_elim}
+use Prim.Native.Nat.{ℕ, ◌<◌}
 use native.Mathlib.Decide.{ℕ_discrete}
 use native.Mathlib.Omega.{arith, by_contra}
-use Rattle.refusals.specs.Checks.{at, Clear, Slice}
+use Rattle.refusals.specs.Checks.{at, Clear}
 use Rattle.refusals.proofs.Order.{clear_slice}
 use Rattle.limits.specs.declared.Lent.{Lent}
 use Rattle.limits.specs.declared.Lent.TheVariants.{Exact, Wrong}
-use Rattle.limits.specs.Limits.{Outside, InLimits, Told, LentTo}
+use Rattle.limits.specs.Limits.{Outside, InLimits, LentTo}
 
 -- ---- one slice
 

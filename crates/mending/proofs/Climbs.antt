@@ -7,7 +7,7 @@ use Prim.Native.Nat.{ℕ, zero, suc, ◌+◌, ◌≤◌, ◌<◌}
 use native.Mathlib.Decide.{dec_le}
 use native.Mathlib.Omega.{arith}
 use lib.ListN.{length}
-use Rattle.parsimony.specs.Table.{ancestor, climb, deep, below, IsTree}
+use Rattle.parsimony.specs.Table.{ancestor, climb, deep, below}
 use Rattle.parsimony.proofs.Tables.Climbing.{climb-more}
 use Rattle.parsimony.proofs.Tables.Trees.{Tree}
 use Rattle.paths.specs.Paths.{path_of}

@@ -4,7 +4,6 @@ use mathlib.Core.Path.{◌≡◌, refl, subst}
 use mathlib.Core.List.{List}
 use Prim.Native.Nat.{ℕ, suc, ◌≤◌, ◌<◌}
 use native.Mathlib.Omega.{arith}
-use lib.ListN.{length}
 use Rattle.parsimony.specs.Table.{climb, below}
 use Rattle.parsimony.specs.Ordered.{ordered}
 use Rattle.parsimony.specs.Steps.{Settled}

@@ -2,11 +2,10 @@
 -- Assumes nothing.
 use mathlib.Core.Path.{◌≡◌, refl, sym, ◌∙◌, ap, ap₂, subst}
 use mathlib.Core.List.{List, [], ◌∷◌}
-use Prim.Native.Nat.{ℕ, suc, ◌+◌, ◌-◌, ◌*◌, ◌≤◌, ◌<◌}
+use Prim.Native.Nat.{ℕ, ◌+◌, ◌-◌, ◌≤◌, ◌<◌}
 use native.Mathlib.Decide.{dec_le}
 use native.Mathlib.Omega.{arith}
 use lib.ListN.{length, get_or, set}
-use Rattle.parsimony.specs.Lists.{choose}
 use Rattle.parsimony.specs.Ordered as ordered
 use Rattle.parsimony.specs.Matrix.{state_of}
 use Rattle.parsimony.specs.Character.{at_node, ranges, sizes}

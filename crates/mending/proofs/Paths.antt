@@ -3,32 +3,30 @@
 use mathlib.Core.Path.{◌≡◌, refl, sym, ◌∙◌, ap, ap₂, subst}
 use mathlib.Core.Logic.{◌≢◌, ◌⊎◌, inl, inr}
 use mathlib.Core.List.{List, [], ◌∷◌, map}
-use Prim.Native.Nat.{ℕ, zero, suc, ◌+◌, ◌-◌, ◌*◌, ◌≤◌, ◌<◌, max}
+use Prim.Native.Nat.{ℕ, zero, suc, ◌+◌, ◌-◌, ◌*◌, ◌≤◌, ◌<◌}
 use native.Mathlib.Decide.{ℕ_discrete, dec_le}
 use native.Mathlib.Omega.{arith}
-use lib.ListN.{length, get_or, set, length-set}
+use lib.ListN.{length, get_or, length-set}
 use Rattle.parsimony.specs.Lists.{sum, same}
-use Rattle.parsimony.specs.Table.{ancestor, descendants, climb, deep, below, Accepted}
+use Rattle.parsimony.specs.Table.{ancestor, descendants, climb, deep, below}
 use Rattle.parsimony.specs.Ordered as ordered
 use Rattle.parsimony.specs.Ordered.{span, ordered}
 use Rattle.parsimony.specs.Steps.{Settled}
 use Rattle.parsimony.specs.Matrix.{state_of}
 use Rattle.parsimony.specs.Character.{at_node, ranges, sizes}
-use Rattle.parsimony.proofs.Sums.{All, often, all_map, same_self, same-apart, same_equal}
+use Rattle.parsimony.proofs.Sums.{often, all_map, same_self, same-apart, same_equal}
 use Rattle.parsimony.proofs.Characters.{entry-written, entry_other, range-taxon, range-inner, size-taxon, size-inner}
 use Rattle.parsimony.proofs.Tables.Descendants.{each_descends, often-descendants}
 use Rattle.parsimony.proofs.Tables.Climbing.{climb-more}
 use Rattle.parsimony.proofs.Tables.Mending.{Alike, stays_settled}
 use Rattle.parsimony.proofs.Tables.Trees.{Tree, steps_below}
 use Rattle.parsimony.proofs.Ranges.Joins.{join-high, cost-high}
-use Rattle.shapes.specs.Shape.{Filled}
-use Rattle.paths.specs.Paths.{path_of}
 use Rattle.paths.proofs.Paths.{path-short, path-at}
 use Rattle.shapes.proofs.Subtrees as subtrees
 use Rattle.nodes.specs.Nodes.{Readable}
 use Rattle.mending.proofs.Climbs as climbs
 use Rattle.mending.proofs.Turns.{MendedTo}
-use Rattle.mending.specs.Mending.{Sound, SameAt, MendsNode, MendedNode, MendsPath}
+use Rattle.mending.specs.Mending.{SameAt, MendsNode, MendedNode, MendsPath}
 
 module _ (n c j t count : ℕ) (tree matrix left right path lows₀ highs₀ lengths₀ : List ℕ)
     (M : MendsPath n c j t count tree matrix left right path lows₀ highs₀ lengths₀) where

@@ -1,8 +1,8 @@
 -- What a correction does to the entries of its character: those of the interior nodes between the taxon and the root are settled anew, and no other
 -- is written. The matrix is the corrected one; the lists have an entry for each interior node, the node n + 1 first.
 -- Assumes nothing.
-use Rattle.std.specs.Prelude.{◌≡◌, List, [], ◌∷◌, ℕ, suc, ◌+◌, ◌-◌, ◌*◌, ◌≤◌, ◌<◌, length, get_or, set}
-use Rattle.parsimony.specs.Table.{ancestor, climb, below, Accepted}
+use Rattle.std.specs.Prelude.{◌≡◌, List, [], ◌∷◌, ℕ, ◌+◌, ◌-◌, ◌*◌, ◌≤◌, ◌<◌, length, get_or, set}
+use Rattle.parsimony.specs.Table.{ancestor, below, Accepted}
 use Rattle.parsimony.specs.Ordered as ordered
 use Rattle.parsimony.specs.Ordered.{ordered}
 use Rattle.parsimony.specs.Steps.{Settled}

@@ -1,14 +1,14 @@
 -- The range of a node, read from a matrix and two lists; and what a node sees from above.
 -- Assumes nothing.
 use mathlib.Core.Path.{◌≡◌, refl, sym, ◌∙◌, ap, ap₂, subst}
-use mathlib.Core.Logic.{◌≢◌, ◌⊎◌, inl, inr}
+use mathlib.Core.Logic.{◌≢◌}
 use mathlib.Core.List.{List, [], ◌∷◌, ◌++◌, map}
-use Prim.Native.Nat.{ℕ, suc, ◌+◌, ◌-◌, ◌*◌, ◌≤◌, ◌<◌}
+use Prim.Native.Nat.{ℕ, suc, ◌+◌, ◌-◌, ◌≤◌, ◌<◌}
 use native.Mathlib.Decide.{ℕ_discrete}
 use native.Mathlib.Omega.{arith}
 use lib.ListN.{length, get_or, set}
 use Rattle.parsimony.specs.Lists.{choose, same, without}
-use Rattle.parsimony.specs.Table.{ancestor, descendants, sisters, Accepted}
+use Rattle.parsimony.specs.Table.{ancestor, descendants, sisters}
 use Rattle.parsimony.specs.Ordered as ordered
 use Rattle.parsimony.specs.Ordered.{span, point}
 use Rattle.parsimony.specs.Matrix.{state_of}
@@ -21,8 +21,6 @@ use Rattle.parsimony.proofs.Tables.Descendants.{often-descendants}
 use Rattle.parsimony.proofs.Tables.Trees.{Tree}
 use Rattle.ranges.specs.declared.Range.{Range}
 use Rattle.ranges.specs.Ranges.{range_of, Joined}
-use Rattle.trees.specs.Answers.{Sized}
-use Rattle.shapes.specs.Shape.{Filled}
 use Rattle.shapes.proofs.Subtrees as subtrees
 use Rattle.nodes.specs.Nodes.{Readable, IsAt, other_of, above_of, Seeing, Seen, Finished}
 

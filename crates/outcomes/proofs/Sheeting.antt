@@ -1,7 +1,7 @@
 -- Reading a sheet, with the result slice as the last of the slices; and a report has room in its slice.
 -- Assumes nothing.
 use mathlib.Core.Path.{◌≡◌, refl}
-use mathlib.Core.List.{List, [], ◌∷◌, ◌++◌}
+use mathlib.Core.List.{List, [], ◌∷◌}
 use Prim.Native.Nat.{ℕ, ◌<◌}
 use lib.ListN.{length}
 use Rattle.refusals.specs.declared.Refusal.{Refusal}

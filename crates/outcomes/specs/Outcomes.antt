@@ -12,7 +12,7 @@ use Rattle.checks.specs.Calls.{character_checks, matrix_checks}
 use Rattle.scores.specs.Scores.{Results}
 use Rattle.characters.specs.declared.Answer.{Answer}
 use Rattle.characters.specs.declared.Answer.TheVariants as answer
-use Rattle.characters.specs.Afresh.{six, result_slices, OneAnswers, AllAnswers}
+use Rattle.characters.specs.Afresh.{result_slices, OneAnswers, AllAnswers}
 use Rattle.answers.specs.Coded.{Gives, resolve_of}
 
 -- ---- the result slice

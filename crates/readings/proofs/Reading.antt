@@ -1,10 +1,9 @@
 -- What the steps of a kept character ask, and what they leave.
 -- Assumes nothing.
-use mathlib.Core.Path.{◌≡◌, refl, sym, subst, subst₂}
+use mathlib.Core.Path.{◌≡◌, subst₂}
 use mathlib.Core.List.{List}
-use Prim.Native.Nat.{ℕ, suc, ◌+◌, ◌-◌, ◌*◌, ◌≤◌, ◌<◌}
+use Prim.Native.Nat.{ℕ, ◌-◌, ◌*◌, ◌≤◌}
 use native.Mathlib.Omega.{arith}
-use lib.ListN.{length, get_or}
 use Rattle.parsimony.specs.Character.{at_node}
 use Rattle.parsimony.proofs.Tables.Trees.{Tree, δ-most}
 use Rattle.parsimony.proofs.Tables.Whole.{δ-inner}

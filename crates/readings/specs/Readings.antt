@@ -1,6 +1,6 @@
 -- What is read of one kept character: its final ranges and its length, by the paper's steps over its entries as they stand.
 -- Assumes nothing.
-use Rattle.std.specs.Prelude.{◌≡◌, List, [], ◌∷◌, ℕ, ◌-◌, ◌*◌, ◌≤◌, ◌<◌, length}
+use Rattle.std.specs.Prelude.{◌≡◌, List, [], ◌∷◌, ℕ, ◌-◌, ◌*◌, ◌≤◌, length}
 use Rattle.parsimony.specs.Table.{Accepted}
 use Rattle.parsimony.specs.Matrix.{state_of}
 use Rattle.refusals.specs.Search.{Never}
@@ -9,7 +9,6 @@ use Rattle.trees.specs.Answers.{Sized}
 use Rattle.descents.specs.Descents.{Finals}
 use Rattle.entries.specs.Entries.{BadAt, character_entries, OneCharacter}
 use Rattle.tallies.specs.declared.Length.{Length}
-use Rattle.tallies.specs.declared.Length.TheVariants as Length
 use Rattle.tallies.specs.Tallies.{length_here}
 
 -- the final ranges and the length

@@ -1,23 +1,23 @@
 -- The marks of a path tell which nodes are beside it.
 -- Assumes nothing.
-use mathlib.Core.Path.{◌≡◌, refl, sym, ◌∙◌, ap, subst}
+use mathlib.Core.Path.{◌≡◌, sym, ◌∙◌, ap, subst}
 use mathlib.Core.Logic.{◌≢◌, ◌↔◌}
-use mathlib.Core.List.{List, ◌++◌}
+use mathlib.Core.List.{List}
 use Prim.Native.Nat.{ℕ, zero, suc, ◌+◌, ◌-◌, ◌*◌, ◌≤◌, ◌<◌}
 use native.Mathlib.Decide.{dec_le}
 use native.Mathlib.Omega.{arith}
 use lib.ListN.{length, get_or, get_or-append}
-use lib.Seq.{sets, sets-eq}
+use lib.Seq.{sets-eq}
 use Rattle.parsimony.specs.Table.{ancestor, climb, below}
 use Rattle.parsimony.specs.Character.{at_node}
 use Rattle.parsimony.proofs.Tables.Trees.{Tree, steps_below}
-use Rattle.refusals.specs.Search.{Lowest, Never, Finds}
+use Rattle.refusals.specs.Search.{Finds}
 use Rattle.refusals.specs.declared.Found.{Found}
 use Rattle.refusals.specs.declared.Found.TheVariants.{At, Nowhere}
 use Rattle.paths.specs.Paths.{path_of, Pathable, IsPath}
 use Rattle.paths.proofs.Paths.{path-at, path-all, path-short}
 use Rattle.shapes.proofs.Subtrees.{ancestor_in}
-use Rattle.entries.specs.Entries.{BadAt, BadBeside, Marks, Marked, BadMarked, Besides}
+use Rattle.entries.specs.Entries.{BadBeside, Marks, Marked, BadMarked, Besides}
 use Rattle.repairs.specs.Repairs.{Correctable, HasPath, Looks}
 
 -- a search for one thing finds another, where both hold of the same numbers

@@ -1,14 +1,13 @@
 -- The cell, and what the path is settled from.
 -- Assumes nothing.
-use mathlib.Core.Path.{◌≡◌, refl, sym, ◌∙◌, ap, ap₂, subst}
+use mathlib.Core.Path.{◌≡◌, sym, ◌∙◌, ap, ap₂}
 use mathlib.Core.Logic.{inl}
 use mathlib.Core.List.{List}
-use Prim.Native.Nat.{ℕ, suc, ◌+◌, ◌-◌, ◌*◌, ◌≤◌, ◌<◌}
+use Prim.Native.Nat.{ℕ, ◌+◌, ◌-◌, ◌*◌, ◌≤◌, ◌<◌}
 use native.Mathlib.Nat.{mul-le-mul_right}
 use native.Mathlib.Decide.{ℕ_discrete}
 use native.Mathlib.Omega.{arith}
-use lib.ListN.{length, get_or, set, length-set}
-use Rattle.parsimony.specs.Table.{ancestor, below}
+use lib.ListN.{length, set, length-set}
 use Rattle.parsimony.specs.Matrix.{state_of}
 use Rattle.parsimony.specs.Character.{at_node}
 use Rattle.parsimony.proofs.Matrices.{cell_in, state-written, state-other}
@@ -17,7 +16,7 @@ use Rattle.entries.specs.Entries.{Bad}
 use Rattle.entries.proofs.Searching.{clean}
 use Rattle.mending.specs.Mending.{Sound, MendsPath}
 use Rattle.mending.specs.Mending as mending
-use Rattle.repairs.specs.Repairs.{with_cell, Mended, Mends}
+use Rattle.repairs.specs.Repairs.{Mended, Mends}
 
 -- an entry that is not bad is sound
 sound : (low high l : ℕ) → (Bad low high l → ⊥) → Sound low high l

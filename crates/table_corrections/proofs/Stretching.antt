@@ -1,7 +1,6 @@
 -- A character's stretch is lent on from the middle of the kept table, and put back there.
 -- Assumes nothing.
-use mathlib.Core.Path.{◌≡◌, refl, sym, ◌∙◌, ap, subst}
-use mathlib.Core.Logic.{◌≢◌}
+use mathlib.Core.Path.{◌≡◌, sym, ◌∙◌, ap, subst}
 use mathlib.Core.List.{List, ◌++◌}
 use Prim.Native.Nat.{ℕ, ◌+◌, ◌-◌, ◌*◌, ◌≤◌, ◌<◌}
 use native.Mathlib.Omega.{arith}
@@ -14,7 +13,7 @@ use Rattle.corrections.specs.declared.Count.{Count}
 use Rattle.corrections.specs.declared.Count.TheVariants.{Rewritten, Refused}
 use Rattle.repairs.specs.Repairs.{Correctable}
 use Rattle.corrections.specs.Corrections.{Corrected, Corrects}
-use Rattle.table_corrections.specs.TableCorrections.{SameStretch, CorrectedIn, CorrectsIn, CorrectableIn}
+use Rattle.table_corrections.specs.TableCorrections.{CorrectedIn, CorrectsIn, CorrectableIn}
 
 module _ (n c t j : ℕ) (tree matrix lows highs lengths : List ℕ) (G : CorrectableIn n c t j tree matrix lows highs lengths) where
   -- where the stretch begins

@@ -1,23 +1,19 @@
 -- The table, built one character after the other.
 -- Assumes nothing.
-use mathlib.Core.Path.{◌≡◌, refl, sym, ◌∙◌, ap, subst}
-use mathlib.Core.Logic.{◌≢◌}
+use mathlib.Core.Path.{◌≡◌, sym, ◌∙◌, ap, subst}
 use mathlib.Core.List.{List, ◌++◌}
-use Prim.Native.Nat.{ℕ, suc, ◌+◌, ◌-◌, ◌*◌, ◌≤◌, ◌<◌, min}
+use Prim.Native.Nat.{ℕ, ◌+◌, ◌-◌, ◌*◌, ◌≤◌, ◌<◌, min}
 use native.Mathlib.Nat.{mul-le-mul_right}
 use native.Mathlib.Decide.{ℕ_discrete}
 use native.Mathlib.Omega.{arith}
 use lib.ListN.{length, take, drop}
 use Rattle.parsimony.specs.Matrix.{state_of}
-use Rattle.parsimony.specs.Character.{FirstMeans}
 use Rattle.parsimony.proofs.Characters.{first-means}
-use Rattle.parsimony.proofs.Tables.Trees.{Tree}
 use Rattle.shapes.specs.Filling.{Orders}
 use Rattle.rows.specs.Rows.{Room}
-use Rattle.passes.specs.Passes.{Passable, Passed, PassedIn}
+use Rattle.passes.specs.Passes.{Passable, Passed}
 use Rattle.entry_lists.specs.EntryLists as lists
 use Rattle.entry_lists.proofs.Passed.{one_settles, one-fits}
-use Rattle.extents.specs.Extents.{Cells}
 use Rattle.tables.specs.Tables.{stretch, with_stretch, TableLong, TableMeans, Settles, BuiltTo, TakenAll, Takes, Builds}
 use Rattle.tables.proofs.Stretches.{stretch_in, stretch-long, with_long, with_here, with_other}
 

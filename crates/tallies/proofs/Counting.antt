@@ -1,10 +1,10 @@
 -- A character's length from its entries, and the sum over all characters.
 -- Assumes nothing.
-use mathlib.Core.Path.{◌≡◌, refl, sym, ◌∙◌, ap, ap₂, subst}
+use mathlib.Core.Path.{◌≡◌, sym, ◌∙◌, ap, ap₂, subst}
 use mathlib.Core.List.{List, [], ◌∷◌}
-use Prim.Native.Nat.{ℕ, suc, ◌+◌, ◌-◌, ◌*◌, ◌≤◌, ◌<◌}
+use Prim.Native.Nat.{ℕ, ◌+◌, ◌-◌, ◌*◌, ◌≤◌, ◌<◌}
 use native.Mathlib.Omega.{arith}
-use lib.ListN.{length, get_or, take, drop}
+use lib.ListN.{get_or, take, drop}
 use Rattle.parsimony.specs.Lists.{sum, from}
 use Rattle.parsimony.specs.Ordered as ordered
 use Rattle.parsimony.specs.Ordered.{point}
@@ -22,7 +22,7 @@ use Rattle.nodes.specs.Nodes.{Readable, IsAt}
 use Rattle.tables.specs.Tables.{stretch}
 use Rattle.entries.specs.Entries.{BadAt, BadIn, all_entries}
 use Rattle.entries.proofs.Searching.{clean, part_is, one-character}
-use Rattle.tallies.specs.Tallies.{length_here, length_in, IsLength, HasTop, Totals, AllSound}
+use Rattle.tallies.specs.Tallies.{length_here, length_in, IsLength, HasTop, AllSound}
 
 -- ---- one character
 

@@ -5,13 +5,12 @@ use Rattle.parsimony.specs.Lists.{sum, from}
 use Rattle.parsimony.specs.Ordered.{ordered}
 use Rattle.parsimony.specs.Steps.{length_by}
 use Rattle.parsimony.specs.Matrix.{state_of}
-use Rattle.parsimony.specs.Character.{at_node, cells, ranges, sizes}
+use Rattle.parsimony.specs.Character.{cells, ranges, sizes}
 use Rattle.refusals.specs.Search.{Never}
 use Rattle.refusals.specs.Checks.{Refuses, Passes}
 use Rattle.tables.specs.Tables.{stretch}
 use Rattle.entries.specs.Entries.{BadAt, BadIn, all_entries, OneCharacter, AllCharacters}
 use Rattle.tallies.specs.declared.Length.{Length}
-use Rattle.tallies.specs.declared.Length.TheVariants as Length
 
 -- the length of the character j, by three lists with an entry for each interior node
 abbrev pub length_here : (n c j ρ δ : ℕ) (tree matrix lows highs lengths : List ℕ) → ℕ

@@ -1,10 +1,9 @@
 -- The length of the tree, one block of characters after the other.
 -- Assumes nothing.
-use mathlib.Core.Path.{◌≡◌, refl, sym, ◌∙◌, ap, subst}
+use mathlib.Core.Path.{◌≡◌, refl, sym, ◌∙◌, ap}
 use mathlib.Core.List.{List}
-use Prim.Native.Nat.{ℕ, zero, suc, ◌+◌, ◌-◌, ◌*◌, ◌≤◌, ◌<◌, min}
+use Prim.Native.Nat.{ℕ, ◌+◌, ◌-◌, ◌*◌, ◌≤◌, min}
 use native.Mathlib.Omega.{arith}
-use lib.ListN.{length}
 use Rattle.parsimony.specs.Lists.{sum, from}
 use Rattle.parsimony.specs.Ordered.{ordered}
 use Rattle.parsimony.specs.Meaning.{LengthMeans}
@@ -13,7 +12,6 @@ use Rattle.parsimony.specs.Character.{cells}
 use Rattle.parsimony.proofs.Sums.{sum_parts, sum-most, sum_alike}
 use Rattle.parsimony.proofs.Uniqueness.{one-least}
 use Rattle.parsimony.proofs.Ranges.Laws.{ordered_laws}
-use Rattle.parsimony.proofs.Rose.Shapes.{Rose}
 use Rattle.parsimony.proofs.Rose.Lengths.{least}
 use Rattle.parsimony.proofs.Tables.Trees.{Tree}
 use Rattle.parsimony.proofs.Tables.Whole.{whole}
@@ -23,8 +21,8 @@ use Rattle.rows.specs.Rows.{Room}
 use Rattle.passes.specs.Passes.{Passable, Passed}
 use Rattle.entry_lists.specs.EntryLists.{length_at}
 use Rattle.entry_lists.proofs.Passed.{ends, length_is, length-small}
-use Rattle.extents.specs.Extents.{Small, Cells}
-use Rattle.totals.specs.Totals.{GivenBlocks, HasLength, Adds, added}
+use Rattle.extents.specs.Extents.{Cells}
+use Rattle.totals.specs.Totals.{HasLength, Adds, added}
 
 module _ (n c ρ δ : ℕ) (left right matrix : List ℕ) where
   module _ (tree : List ℕ) (O : Orders n δ tree ρ left right) where

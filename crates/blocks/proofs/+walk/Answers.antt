@@ -104,8 +104,8 @@ settle-requires t c =
 pub returns : goal.returns
 returns t c =
     λ tree ρ δ W.
-        let F = fork t (goal.at.returns t c).After-wide-b tree ρ δ W in
-        let A = first t (goal.at.returns t c).After-walk tree ρ δ W F in
-        finished _ _ _ tree ρ δ c.args.left.now c.args.right.now c.args.lows.now c.args.highs.now c.args.lengths.now W _ _ c.if-node-n.false F
-        c.walk.new.lows c.walk.new.highs c.walk.new.lengths A c.walk-2.new.lows c.walk-2.new.highs c.walk-2.new.lengths
-        (second t (goal.at.returns t c).After-walk-2 tree ρ δ W F A) _ _ _ c.settle.ensures
+    let F = fork t (goal.at.returns t c).After-wide-b tree ρ δ W in
+    let A = first t (goal.at.returns t c).After-walk tree ρ δ W F in
+    finished _ _ _ tree ρ δ c.args.left.now c.args.right.now c.args.lows.now c.args.highs.now c.args.lengths.now W _ _ c.if-node-n.false F
+    c.walk.new.lows c.walk.new.highs c.walk.new.lengths A c.walk-2.new.lows c.walk-2.new.highs c.walk-2.new.lengths
+    (second t (goal.at.returns t c).After-walk-2 tree ρ δ W F A) _ _ _ c.settle.ensures

@@ -5,7 +5,7 @@ use Rattle.descents.proofs.Passing.{PassedTo}
 use Rattle.descents.proofs.pass.Given as goal
 
 abbrev pub invariant-loop-i : goal.invariant-loop-i
-invariant-loop-i l =     PassedTo l.n l.c l.character l.root l.top l.tree l.matrix l.order l.lows l.highs l.i l.above_lows l.above_highs l.final_lows l.final_highs
+invariant-loop-i l = PassedTo l.n l.c l.character l.root l.top l.tree l.matrix l.order l.lows l.highs l.i l.above_lows l.above_highs l.final_lows l.final_highs
 
 abbrev pub decreases-loop-i : goal.decreases-loop-i
-decreases-loop-i l =     l.n - l.i
+decreases-loop-i l = l.n - l.i

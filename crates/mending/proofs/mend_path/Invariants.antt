@@ -4,7 +4,7 @@ use Rattle.mending.proofs.Turns.{MendedTo}
 use Rattle.mending.proofs.mend_path.Given as goal
 
 abbrev pub invariant-loop-i : goal.invariant-loop-i
-invariant-loop-i l =     MendedTo l.n l.c l.character l.taxon l.count l.tree l.matrix l.initial.lows l.initial.highs l.initial.lengths l.i l.lows l.highs l.lengths
+invariant-loop-i l = MendedTo l.n l.c l.character l.taxon l.count l.tree l.matrix l.initial.lows l.initial.highs l.initial.lengths l.i l.lows l.highs l.lengths
 
 abbrev pub decreases-loop-i : goal.decreases-loop-i
 decreases-loop-i l = l.count - l.i

@@ -1,5 +1,5 @@
 use native.Mathlib.Omega.{arith}
-use Prim.Native.Nat.{ℕ, ◌+◌, ◌<◌}
+use Prim.Native.Nat.{ℕ, ◌<◌}
 use lib.ListN.{length}
 use Rattle.printing.proofs.Laws.{length-one, length_more, written_one, written-more}
 use Rattle.printing.proofs.+put_number.Goals as goal

@@ -31,17 +31,16 @@ put_tree-next-requires c =
     )
 
 pub put_characters-requires : goal.put_characters-requires
-put_characters-requires c =
-    (
-      ready c.args.n c.args.c c.args.tree.now c.args.matrix.now c.in-Scores.scores (scored (goal.at.put_characters-requires c).In-Scores),
-      fitting-rest _ _ 0 _ (tree_lines c.args.n c.args.c c.in-Scores.scores c.args.resolve) tree_room
-          (c.args.c * character_room (c.args.n - 2)) c.put_tree-next.ensures
-          (omega (
-            arith,
-            c.requires.1,
-            characters-room c.args.n c.args.c c.requires.0.limits.least c.requires.0.limits.few c.requires.0.few,
-          )),
-    )
+put_characters-requires c = (
+  ready c.args.n c.args.c c.args.tree.now c.args.matrix.now c.in-Scores.scores (scored (goal.at.put_characters-requires c).In-Scores),
+  fitting-rest _ _ 0 _ (tree_lines c.args.n c.args.c c.in-Scores.scores c.args.resolve) tree_room
+      (c.args.c * character_room (c.args.n - 2)) c.put_tree-next.ensures
+      (omega (
+        arith,
+        c.requires.1,
+        characters-room c.args.n c.args.c c.requires.0.limits.least c.requires.0.limits.few c.requires.0.few,
+      )),
+)
 
 pub returns-in-Scores : goal.returns-in-Scores
 returns-in-Scores c =

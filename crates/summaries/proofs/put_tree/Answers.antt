@@ -2,7 +2,6 @@
 use mathlib.Core.List.{List, ◌++◌}
 use Prim.Native.Nat.{ℕ, ◌+◌}
 use native.Mathlib.Omega.{arith}
-use lib.ListN.{length}
 use Rattle.fields.specs.Fields as fields
 use Rattle.fields.proofs.Room.{looser, fitting-both}
 use Rattle.numbers.specs.Printed.{decimal}

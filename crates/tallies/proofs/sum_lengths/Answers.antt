@@ -1,7 +1,6 @@
 use native.Mathlib.Omega.{arith}
 use mathlib.Core.Path.{◌≡◌}
 use Prim.Native.Nat.{◌+◌, ◌-◌, ◌*◌}
-use Rattle.parsimony.specs.Lists.{from}
 use Rattle.tallies.proofs.Counting.{has-top, one-small, one_more}
 use Rattle.tallies.proofs.sum_lengths.Goals as goal
 use Rattle.tallies.proofs.sum_lengths.Goals.{In-loop-j}

@@ -1,6 +1,5 @@
 use native.Mathlib.Omega.{arith}
 use Prim.Native.Nat.{◌+◌, ◌≤◌}
-use lib.ListN.{length}
 use Rattle.parsimony.proofs.Sums.{sum_next}
 use Rattle.entry_lists.specs.EntryLists.{length_at}
 use Rattle.totals.proofs.add_block.Goals as goal
