@@ -1,21 +1,15 @@
 -- `correct_character` looks at the state, then beside the path, and then writes.
 use native.Mathlib.Omega.{arith}
 use mathlib.Core.Path.{refl}
-use Prim.Native.Nat.{◌-◌, ◌*◌, ◌<◌}
+use Prim.Native.Nat.{◌-◌, ◌*◌}
 use Rattle.refusals.specs.Search.{Never}
-use Rattle.refusals.specs.Checks.{at, Clear}
 use Rattle.refusals.proofs.Laws.{finds_nowhere}
-use Rattle.refusals.proofs.Order.{clear_at}
 use Rattle.entries.specs.Entries.{BadBeside}
 use Rattle.repairs.proofs.Looking.{looks, has-path, count-few}
 use Rattle.corrections.proofs.correct_character.Goals as goal
-use Rattle.corrections.proofs.correct_character.Goals.{Else-state-gt9999, In_default}
+use Rattle.corrections.proofs.correct_character.Goals.{In_default}
 
--- the state is not above 9999
-small : (c : Else-state-gt9999) → Clear (at 9 0 (9999 < c.args.state))
-small c = clear_at 9 0 _ (λ h. omega (arith, c.if-state-gt9999.false))
-
--- or there is none
+-- no entry beside the path is bad
 clear : (c : In_default) → Never (BadBeside c.args.n c.args.taxon
     c.args.tree.now c.args.lows.now c.args.highs.now
     c.args.lengths.now) (2 * c.args.n - 2)
@@ -32,7 +26,7 @@ pub write_path-requires : goal.write_path-requires
 write_path-requires c =
     record {
       given = c.requires;
-      small = c.if-state-gt9999.false;
+      small = omega arith;
       listed = has-path _ _ _ _
           c.args.tree.now c.args.matrix.now c.args.lows.now
           c.args.highs.now c.args.lengths.now c.requires _ _ _ refl

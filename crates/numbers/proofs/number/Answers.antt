@@ -30,7 +30,7 @@ returns-then-first-eq0 c = sym (number-zero _ _ _ (first_is (goal.at.returns-the
 
 pub loop-d-init : goal.loop-d-init
 loop-d-init c = (
-  number_more _ _ _ (first_is (goal.at.loop-d-init c).After-digit-first) c.if-first-gt9.false c.if-first-eq0.false,
+  number_more _ _ _ (first_is (goal.at.loop-d-init c).After-digit-first) c.if-first-gt9.false (λ z. omega (arith, z)),
   c.digit-d.ensures ∙ ap
       digit_of c.byte-2.ensures,
   omega (arith, c.if-first-gt9.false),

@@ -7,18 +7,18 @@ use Rattle.printing.proofs.+put_number.Goals.{After-put_number-next}
 
 -- the tenth is written, and there is room for one digit more
 end : (t : ℕ) (c : After-put_number-next t) → c.put_number-next.result < length c.args.out.now
-end t c = omega (arith, c.put_number-next.ensures.next_is, length_more c.args.v c.if-v-lt10.false, c.requires)
+end t c = omega (arith, c.put_number-next.ensures.next_is, length_more c.args.v (omega arith), c.requires)
 
 pub bounds-out-at : goal.bounds-out-at
-bounds-out-at t c = omega (arith, length-one c.args.v c.if-v-lt10.true, c.requires)
+bounds-out-at t c = omega (arith, length-one c.args.v (omega arith), c.requires)
 
 pub returns-then-v-lt10 : goal.returns-then-v-lt10
-returns-then-v-lt10 t c = written_one _ _ _ c.if-v-lt10.true
+returns-then-v-lt10 t c = written_one _ _ _ (omega arith)
 
 pub put_number-next-requires : goal.put_number-next-requires
 put_number-next-requires t c = (
   omega arith,
-  omega (arith, length_more c.args.v c.if-v-lt10.false, c.requires),
+  omega (arith, length_more c.args.v (omega arith), c.requires),
 )
 
 pub bounds-out-next : goal.bounds-out-next
@@ -28,4 +28,4 @@ pub overflow_add-result-2 : goal.overflow_add-result-2
 overflow_add-result-2 t c = omega (arith, end t (goal.at.overflow_add-result-2 t c).After-put_number-next)
 
 pub returns : goal.returns
-returns t c = written-more _ _ _ _ _ c.if-v-lt10.false c.put_number-next.ensures
+returns t c = written-more _ _ _ _ _ (omega arith) c.put_number-next.ensures

@@ -1,10 +1,11 @@
 -- `report` looks at the length of the slice, and writes.
+use mathlib.Core.Path.{◌≡◌}
+use native.Mathlib.Omega.{arith}
+use lib.ListN.{length}
 use Rattle.reports.proofs.Telling.{printed}
 use Rattle.reports.proofs.report.Goals as goal
 
 pub returns : goal.returns
-returns c = (
-  c.if-out-ne524288.false,
-  printed c.args.text.now c.args.out.now _ _
-      c.if-out-ne524288.false c.put_all.ensures,
-)
+returns c =
+    let long : length c.args.out.now ≡ 524288 = omega arith in
+    (long, printed c.args.text.now c.args.out.now _ _ long c.put_all.ensures)

@@ -29,27 +29,27 @@ outside c W =
 
 pub returns-in_default : goal.returns-in_default
 returns-in_default c =
-    refused_as _ _ _ _ c.refuse-in_default.ensures (refused-first _ c.if-text-gt32768.false
+    refused_as _ _ _ _ c.refuse-in_default.ensures (refused-first _ (omega arith)
     (sym c.head-first.ensures ∙ c.in_default.is)) c.requires
 
 pub head-second-requires : goal.head-second-requires
-head-second-requires c = (omega (arith, head_reach _ _ _ _ _ (first_is (goal.at.head-second-requires c).In-Value), c.if-text-gt32768.false), search rules)
+head-second-requires c = (omega (arith, head_reach _ _ _ _ _ (first_is (goal.at.head-second-requires c).In-Value)), search rules)
 
 pub returns-in_default-second : goal.returns-in_default-second
 returns-in_default-second c =
     let (fit, print) = first_read _ _ _ (first_is (goal.at.returns-in_default-second c).In-Value) in refused_as _ _ _ _ c.refuse-in_default-second.ensures
-    (refused-second _ c.if-text-gt32768.false _ _ fit print (sym c.head-second.ensures
+    (refused-second _ (omega arith) _ _ fit print (sym c.head-second.ensures
     ∙ c.in_default-second.is)) c.requires
 
 pub returns-then-n-lt3 : goal.returns-then-n-lt3
 returns-then-n-lt3 c =
-    refused_as _ _ _ _ c.refuse-then-n-lt3.ensures (refused_outside _ c.if-text-gt32768.false _ _ _ (heads (goal.at.returns-then-n-lt3 c).In-Value-second)
+    refused_as _ _ _ _ c.refuse-then-n-lt3.ensures (refused_outside _ (omega arith) _ _ _ (heads (goal.at.returns-then-n-lt3 c).In-Value-second)
     (outside (goal.at.returns-then-n-lt3 c).Joined-then-n-lt3)) c.requires
 
 pub read_body-requires : goal.read_body-requires
 read_body-requires c = (
   heads (goal.at.read_body-requires c).In-Value-second,
   record { least_taxa = omega arith; most_taxa = omega arith; least_characters = omega arith; most_characters = omega arith },
-  c.if-text-gt32768.false,
+  omega arith,
   c.requires,
 )

@@ -21,11 +21,11 @@ pub filled_by-filled-requires : goal.filled_by-filled-requires
 filled_by-filled-requires c = scanned_fits c.args.text.now c.scan-answer.result _ c.scan-answer.ensures
 
 pub copy-requires-2 : goal.copy-requires-2
-copy-requires-2 c = omega (arith, room (goal.at.copy-requires-2 c).After-filled_by-filled, long (goal.at.copy-requires-2 c).After-scan-answer, c.if-matrix-ne16384.false)
+copy-requires-2 c = omega (arith, room (goal.at.copy-requires-2 c).After-filled_by-filled, long (goal.at.copy-requires-2 c).After-scan-answer)
 
 pub returns : goal.returns
 returns c =
     answers c.args.text.now c.args.tree.now c.args.matrix.now _
-    _ c.scan-answer.result _ _ c.if-tree-ne510.false c.if-matrix-ne16384.false
+    _ c.scan-answer.result _ _ (omega arith) (omega arith)
     c.scan-answer.ensures c.filled_by-filled.ensures c.copy.ensures
     c.copy-2.ensures
