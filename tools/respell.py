@@ -87,6 +87,8 @@ def renaming():
 
 
 def main():
+    if sys.argv[1:] not in ([], ["--map"]):
+        sys.exit("respell: it takes --map or nothing, and with nothing it rewrites the repository")
     names = renaming()
     if "--map" in sys.argv:
         for old, new in names.items():
