@@ -1,5 +1,5 @@
 -- The report: the theorems, each in full and proved by a citation. `Reports text out out' a` is the contract of `report`: a is the answer to a text,
--- with what the lent slice held before and holds afterwards. That `report` keeps it is proved in report/Proof.antt.
+-- with what the lent slice held before and holds afterwards. That `report` keeps it is proved in report/Answers.antt.
 -- Assumes nothing.
 use mathlib.Core.Path.{◌≡◌, refl, ◌∙◌}
 use mathlib.Core.List.{List, ◌++◌, flatten}

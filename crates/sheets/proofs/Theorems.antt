@@ -1,5 +1,5 @@
 -- Reading a sheet: the theorems, each in full and proved by a citation. `Answers text tree matrix a tree' matrix'` is the contract of `read_sheet`: a
--- is the answer to a text, with what the lent slices held before and hold afterwards. That `read_sheet` keeps it is proved in read_sheet/Proof.antt.
+-- is the answer to a text, with what the lent slices held before and hold afterwards. That `read_sheet` keeps it is proved in read_sheet/Answers.antt.
 -- Assumes nothing.
 use mathlib.Core.Path.{◌≡◌, refl, subst}
 use mathlib.Core.Logic.{◌↔◌}

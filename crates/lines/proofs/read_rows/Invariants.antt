@@ -5,13 +5,9 @@ use Rattle.lines.specs.Lines.{rows_at}
 use Rattle.lines.proofs.Laws.{AlikeRows}
 use Rattle.lines.proofs.read_rows.Given as goal
 
--- CHECK: invariant-loop has 17 patterns, 16 wanted: ['text', 'at', 'count', 'width', 'first', 'out', 'from', 'i', 'put', 'left', 'line'] [False, False, False, False, False, True, False, True, True, True, True]
-
 abbrev pub invariant-loop-left : goal.invariant-loop-left
 invariant-loop-left l = AlikeRows (rows_at l.text l.width l.count l.first l.at) l.initial.out l.from (rows_at l.text l.width l.left l.line l.i) l.out l.put × (2 * l.put ≤ l.i) × (l.i ≤ 32768)
     × (l.left + l.line ≤ 4096)
-
--- CHECK: decreases-loop has 17 patterns, 16 wanted: ['text', 'at', 'count', 'width', 'first', 'out', 'from', 'i', 'put', 'left', 'line'] [False, False, False, False, False, True, False, True, True, True, True]
 
 abbrev pub decreases-loop-left : goal.decreases-loop-left
 decreases-loop-left l = l.left
