@@ -10,7 +10,8 @@
  *     to the others during the call.
  *
  * No function allocates memory, keeps a pointer, or has state of its own: calls from several threads, on separate buffers, do not disturb each
- * other, and slices that are only read may be shared. A call needs less than BADRUMELLO_STACK_BYTES of stack. The library is built for x86-64 Linux.
+ * other, and slices that are only read may be shared. A call needs less than BADRUMELLO_STACK_BYTES of stack. The library is built for x86-64 Linux,
+ * and for processors of the level x86-64-v2 (SSE4.2 and POPCNT).
  *
  * Inputs
  *

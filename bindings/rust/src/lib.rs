@@ -32,7 +32,7 @@
 //! # Linking
 //!
 //! The build script looks for the static library in the folder that the environment variable `BADRUMELLO_LIB_DIR` names (after `./install PREFIX`
-//! that is `PREFIX/lib`), or else where `rt staticlib editions` leaves it in the repository.
+//! that is `PREFIX/lib`), or else where `rt lib` in `crates/editions` leaves it.
 #![deny(missing_docs)]
 #![deny(unsafe_op_in_unsafe_fn)]
 
