@@ -1,5 +1,5 @@
 #!/usr/bin/env python3
-"""Respells this repository's own definitions and lemmas as today's Rattle spells names. Run once, after /opt/rattle/port/port.py, at the top.
+"""Respells this repository's own definitions and lemmas as today's Rattle spells names. Run once, after the kit's port.py, at the top.
 
 Words are in snake case, and types and modules in camel case. A dash stays only where it joins names: where each part is the name of a
 definition (of specs/, or one of LIBRARY below) or an operator, as in `meets-climb`; else it becomes `_`, as in `meets_all`.
