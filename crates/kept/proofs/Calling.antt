@@ -129,7 +129,8 @@ module _ (n c t j s : ℕ) (tree matrix : List ℕ) (T : Table) (L : InLimits n 
         clear_at 1 0 (Outside n c) (not_outside n c L),
         refuses_over (slices 1 (lent_slices n c tree matrix (table_slices n c T))) (tree_faults n tree ++ cell_checks n c w matrix)
             (tree_faults n tree ++ correction_checks n c t j s tree matrix T) r
-            (refuses_over (tree_faults n tree) (cell_checks n c w matrix) (correction_checks n c t j s tree matrix T) r (cells-refused (dec_le 1 t) (dec_le t n)))
+            (refuses_over (tree_faults n tree) (cell_checks n c w matrix) (correction_checks n c t j s tree matrix T) r
+            (cells-refused (dec_le 1 t) (dec_le t n)))
             (h (lent_slices n c tree matrix (table_slices n c T)) m),
       )
     where

@@ -9,7 +9,8 @@ use native.Mathlib.Omega.{arith}
 use lib.ListN.{length, get_or, take}
 use lib.Seq.{get_or-take}
 use Rattle.parsimony.specs.Lists.{sum, from, same}
-use Rattle.parsimony.proofs.Sums.{All, often, often-once, often-below, often_beyond, same_self, same-apart, same_sym, sum-add, sum-append, sum_small, sum-zero, all_from, length_from}
+use Rattle.parsimony.proofs.Sums.{All, often, often-once, often-below, often_beyond, same_self, same-apart, same_sym}
+use Rattle.parsimony.proofs.Sums.{sum-add, sum-append, sum_small, sum-zero, all_from, length_from}
 
 -- one more at the end
 pub often_snoc : (ks : List ℕ) (a v : ℕ) → often (ks ++ (a ∷ [])) v ≡ often ks v + same a v

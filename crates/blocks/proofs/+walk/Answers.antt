@@ -1,3 +1,4 @@
+-- `walk`: a taxon's entries stand; of another node the two descendants are walked, one after the other, and then the node is settled.
 use native.Mathlib.Omega.{arith}
 use mathlib.Core.Path.{◌≡◌}
 use mathlib.Core.List.{List, [], ◌∷◌}

@@ -21,7 +21,8 @@ told-all c = c.lend-from1.ensures (matrix_slice c.args.n c.args.c c.args.matrix.
 pub admit_matrix-admission-requires : goal.admit_matrix-admission-requires
 admit_matrix-admission-requires c =
     admissible c.args.n c.args.c c.args.tree.now
-    c.args.matrix.now [] (limits (goal.at.admit_matrix-admission-requires c).Else-outside) _ (told-all (goal.at.admit_matrix-admission-requires c).After-lend-from1)
+    c.args.matrix.now [] (limits (goal.at.admit_matrix-admission-requires c).Else-outside) _
+    (told-all (goal.at.admit_matrix-admission-requires c).After-lend-from1)
 
 pub score_all-requires : goal.score_all-requires
 score_all-requires c =

@@ -53,7 +53,8 @@ told-all c =
 pub admit_character-admission-requires : goal.admit_character-admission-requires
 admit_character-admission-requires c =
     admissible c.args.n c.args.c c.args.tree.now
-    c.args.matrix.now (result_slices c.args.n (lists (goal.at.admit_character-admission-requires c).Start)) (limits (goal.at.admit_character-admission-requires c).Else-outside) _
+    c.args.matrix.now (result_slices c.args.n (lists (goal.at.admit_character-admission-requires c).Start))
+    (limits (goal.at.admit_character-admission-requires c).Else-outside) _
     (told-all (goal.at.admit_character-admission-requires c).After-lend-from1)
 
 pub score_one-requires : goal.score_one-requires

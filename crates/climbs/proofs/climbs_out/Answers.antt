@@ -1,3 +1,4 @@
+-- `climbs_out`: the mark k seen again is a round; an earlier mark leads out, and so does the root; else a turn marks one node more.
 use native.Mathlib.Omega.{arith}
 use mathlib.Core.Path.{◌∙◌, sym}
 use Prim.Native.Nat.{◌≤◌, ◌<◌}

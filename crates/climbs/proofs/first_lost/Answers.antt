@@ -1,3 +1,4 @@
+-- `first_lost`: where the climb leads out, one node more is passed; where it does not, the node is the lowest that never comes to the root.
 use Rattle.std.proofs.Common.{rules}
 use Rattle.climbs.proofs.Rounds.{climbed_yes, climbed_no, reach-more, lost_here}
 use Rattle.climbs.proofs.first_lost.Goals as goal

@@ -1,3 +1,4 @@
+-- `pass`: at its turn a node sees what is above it and is finished, and so one node more is; after the last turn all are.
 use Rattle.descents.proofs.Passing.{passed_all, seeing_at, finishing_at, turned_at}
 use Rattle.descents.proofs.pass.Goals as goal
 

@@ -1,3 +1,4 @@
+-- `bad_entry`: a character is looked at in its own stretch, which is n-2 entries wide; the first bad entry found is the first of all.
 use native.Mathlib.Omega.{arith}
 use mathlib.Core.Path.{◌≡◌}
 use Prim.Native.Nat.{◌+◌, ◌-◌, ◌*◌}

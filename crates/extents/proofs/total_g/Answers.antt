@@ -1,3 +1,4 @@
+-- `total_g`: a character's g is at most 9999 for each of 256 taxa, so the sum fits; a turn adds the g of one character more.
 use native.Mathlib.Omega.{arith}
 use Prim.Native.Nat.{◌+◌, ◌≤◌}
 use Rattle.parsimony.specs.Matrix.{state_of}

@@ -1,3 +1,4 @@
+-- `total_m`: a character's m is 9999 at the most; a turn adds the m of one character more.
 use native.Mathlib.Omega.{arith}
 use Prim.Native.Nat.{◌+◌, ◌≤◌}
 use Rattle.parsimony.specs.Matrix.{state_of}

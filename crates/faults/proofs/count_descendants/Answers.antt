@@ -1,3 +1,4 @@
+-- `count_descendants`: an entry is a node of the table, so it has a count, and no count is above the entries passed; a turn counts one entry more.
 use Rattle.std.proofs.Common.{rules}
 use native.Mathlib.Omega.{arith}
 use Prim.Native.Nat.{◌≤◌}

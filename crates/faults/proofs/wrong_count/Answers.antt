@@ -1,3 +1,4 @@
+-- `wrong_count`: the counts begin with a list of zeros, as `count_descendants` asks; the rest the check finds alone.
 use Rattle.faults.proofs.Counting.{cleared}
 use Rattle.faults.proofs.wrong_count.Goals as goal
 

@@ -1,3 +1,4 @@
+-- `g`: what a turn adds is the distance of the next taxon's state from the root's.
 use Rattle.std.proofs.Common.{rules}
 use mathlib.Core.Path.{◌≡◌, ◌∙◌, ap₂}
 use Prim.Native.Nat.{ℕ, ◌+◌}

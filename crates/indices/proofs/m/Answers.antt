@@ -1,3 +1,4 @@
+-- `m`: a turn takes in the next taxon's state; the lowest is never above the highest, so what is between them is a number.
 use Rattle.std.proofs.Common.{rules}
 use Prim.Native.Nat.{ℕ}
 use native.Mathlib.Omega.{arith}

@@ -8,7 +8,9 @@ use Rattle.parsimony.specs.Index as index
 use Rattle.indices.proofs.m.Given as goal
 
 abbrev pub invariant-loop-t : goal.invariant-loop-t
-invariant-loop-t l = (l.t ≤ l.n) × (l.lowest ≡ index.lowest (state_of l.matrix l.c l.character) 1 (from 1 l.t)) × (l.highest ≡ index.highest (state_of l.matrix l.c l.character) 1 (from 1 l.t))
+invariant-loop-t l = (l.t ≤ l.n)
+    × (l.lowest ≡ index.lowest (state_of l.matrix l.c l.character) 1 (from 1 l.t))
+    × (l.highest ≡ index.highest (state_of l.matrix l.c l.character) 1 (from 1 l.t))
 
 abbrev pub decreases-loop-t : goal.decreases-loop-t
 decreases-loop-t l = l.n - l.t

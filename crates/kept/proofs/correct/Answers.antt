@@ -63,7 +63,8 @@ returns-in-Refused c = (
   correct_refused c.args.n c.args.c c.args.taxon
       c.args.character c.args.state c.args.tree.now
       c.args.matrix.now (table (goal.at.returns-in-Refused c).Start) (limits (goal.at.returns-in-Refused c).Else-outside)
-      c.lend-from1.result (told-all (goal.at.returns-in-Refused c).After-lend-from1) _ c.wanted-looked.ensures _ (refused (goal.at.returns-in-Refused c).In-Refused),
+      c.lend-from1.result (told-all (goal.at.returns-in-Refused c).After-lend-from1) _ c.wanted-looked.ensures _
+      (refused (goal.at.returns-in-Refused c).In-Refused),
   refl,
   refl,
 )

@@ -52,7 +52,8 @@ admit_matrix-admission-requires c =
 pub sum_or-requires : goal.sum_or-requires
 sum_or-requires c =
     totals c.args.n c.args.c c.args.tree.now c.args.matrix.now
-    (table (goal.at.sum_or-requires c).Start) (limits (goal.at.sum_or-requires c).Else-outside) c.lend-from1.result (told-all (goal.at.sum_or-requires c).After-lend-from1) _ _
+    (table (goal.at.sum_or-requires c).Start) (limits (goal.at.sum_or-requires c).Else-outside) c.lend-from1.result
+    (told-all (goal.at.sum_or-requires c).After-lend-from1) _ _
     (admitted (goal.at.sum_or-requires c).In-Admitted) _ _ c.wide.ensures c.wide-in-Admitted.ensures
 
 pub returns-in-Refused : goal.returns-in-Refused
@@ -65,5 +66,6 @@ pub returns-in-Admitted : goal.returns-in-Admitted
 returns-in-Admitted c =
     has-lengths c.args.n c.args.c c.args.tree.now
     c.args.matrix.now (table (goal.at.returns-in-Admitted c).Start) (limits (goal.at.returns-in-Admitted c).Else-outside) c.lend-from1.result
-    (told-all (goal.at.returns-in-Admitted c).After-lend-from1) _ _ (admitted (goal.at.returns-in-Admitted c).In-Admitted) _ _ c.wide.ensures c.wide-in-Admitted.ensures
+    (told-all (goal.at.returns-in-Admitted c).After-lend-from1) _ _ (admitted (goal.at.returns-in-Admitted c).In-Admitted) _ _
+    c.wide.ensures c.wide-in-Admitted.ensures
     c.sum_or.result c.sum_or.ensures

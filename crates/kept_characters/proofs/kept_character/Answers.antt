@@ -61,7 +61,8 @@ pub admit_character-admission-requires : goal.admit_character-admission-requires
 admit_character-admission-requires c =
     admissible c.args.n c.args.c c.args.tree.now
     c.args.matrix.now (kept_slices c.args.n c.args.c (table (goal.at.admit_character-admission-requires c).Start)
-    c.args.final_lows.now c.args.final_highs.now) (limits (goal.at.admit_character-admission-requires c).Else-outside) _ (told-all (goal.at.admit_character-admission-requires c).After-lend-from1)
+    c.args.final_lows.now c.args.final_highs.now) (limits (goal.at.admit_character-admission-requires c).Else-outside) _
+    (told-all (goal.at.admit_character-admission-requires c).After-lend-from1)
 
 pub slice_bounds-read_or-end : goal.slice_bounds-read_or-end
 slice_bounds-read_or-end c =

@@ -1,3 +1,4 @@
+-- `mark` is the mark of the definition, with one number left and with more.
 use borrow.Author.Tests.{eq-eqb, ne_eqb}
 use Rattle.lines.specs.Lines.{mark_of}
 use Rattle.lines.proofs.mark.Goals as goal

@@ -6,7 +6,8 @@ use Rattle.lines.proofs.Laws.{AlikeRows}
 use Rattle.lines.proofs.read_rows.Given as goal
 
 abbrev pub invariant-loop-left : goal.invariant-loop-left
-invariant-loop-left l = AlikeRows (rows_at l.text l.width l.count l.first l.at) l.initial.out l.from (rows_at l.text l.width l.left l.line l.i) l.out l.put × (2 * l.put ≤ l.i) × (l.i ≤ 32768)
+invariant-loop-left l = AlikeRows (rows_at l.text l.width l.count l.first l.at) l.initial.out l.from
+    (rows_at l.text l.width l.left l.line l.i) l.out l.put × (2 * l.put ≤ l.i) × (l.i ≤ 32768)
     × (l.left + l.line ≤ 4096)
 
 abbrev pub decreases-loop-left : goal.decreases-loop-left

@@ -1,3 +1,5 @@
+-- `values`: what is no number ends the reading; a number and its mark take two bytes at the least, so there is room for it, and reading goes on
+-- behind them.
 use native.Mathlib.Omega.{arith}
 use mathlib.Core.Path.{◌≡◌, sym, ap, ◌∙◌}
 use Prim.Native.Nat.{ℕ, ◌+◌, ◌≤◌, ◌<◌}

@@ -1,3 +1,4 @@
+-- `mend_path`: a node of the path can be mended at its turn, and so one node more is; after the last turn the whole path is.
 use native.Mathlib.Omega.{arith}
 use Prim.Native.Nat.{◌<◌}
 use Rattle.mending.proofs.Ends.{mended-all}

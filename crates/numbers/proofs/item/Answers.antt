@@ -1,3 +1,4 @@
+-- `item`: there is no number here; or one with the byte asked for behind it; or one with another byte.
 use mathlib.Core.Path.{sym, ◌∙◌}
 use Rattle.numbers.proofs.Laws.{item_bad, item_ended, item_open}
 use Rattle.numbers.proofs.item.Goals as goal

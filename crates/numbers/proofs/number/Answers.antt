@@ -1,3 +1,4 @@
+-- `number`: no digit is no number, and a 0 stands alone; else each digit goes into the value, until that is above 65535 or no digit follows.
 use native.Mathlib.Omega.{arith}
 use mathlib.Core.Path.{◌≡◌, sym, ap, ◌∙◌}
 use Prim.Native.Nat.{◌<◌}

@@ -1,3 +1,4 @@
+-- `starts`: a byte that differs ends it; a byte that does not leaves the rest of the key; at its end the whole key stands there.
 use Rattle.std.proofs.Common.{rules}
 use mathlib.Core.Path.{sym, ◌∙◌}
 use Rattle.numbers.proofs.Laws.{starts_same, starts_other, starts_all}

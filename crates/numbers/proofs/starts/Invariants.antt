@@ -1,3 +1,5 @@
+-- `starts` compares one byte after the other. The invariant: the key stands here if what is left of it stands where the comparison is. The bytes left
+-- are the measure.
 use mathlib.Core.Path.{◌≡◌}
 use Prim.Native.Nat.{◌+◌, ◌-◌, ◌≤◌}
 use lib.ListN.{length, drop}

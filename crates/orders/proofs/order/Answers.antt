@@ -1,3 +1,5 @@
+-- `order`: the node whose turn it is is an interior node, so the lists have its place, and there is room for its descendants, which a turn puts at
+-- the end.
 use native.Mathlib.Omega.{arith}
 use mathlib.Core.Path.{refl, sym, ◌∙◌, ap, subst}
 use Prim.Native.Nat.{◌-◌, ◌≤◌, ◌<◌}

@@ -1,3 +1,4 @@
+-- `load_row`: a turn loads one character more.
 use native.Mathlib.Omega.{arith}
 use mathlib.Core.Path.{refl}
 use Rattle.passes.proofs.Loading.{one_more}

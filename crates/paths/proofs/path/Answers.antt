@@ -1,3 +1,4 @@
+-- `path`: the list has room for each interior node that the climb passes; a turn lists one more, and the walk ends at the root.
 use native.Mathlib.Omega.{arith}
 use mathlib.Core.Path.{◌∙◌, sym}
 use Prim.Native.Nat.{◌<◌}

@@ -1,3 +1,4 @@
+-- `put_number`: a number below 10 is one digit; another is the digits of its tenth and one more, for which there is room.
 use native.Mathlib.Omega.{arith}
 use Prim.Native.Nat.{ℕ, ◌<◌}
 use lib.ListN.{length}

@@ -1,3 +1,4 @@
+-- `put_bytes`: a turn writes one byte more, and the slice stays as long as it was.
 use Rattle.std.proofs.Common.{rules}
 use lib.ListN.{length-set}
 use Rattle.printing.proofs.Laws.{bytes_more}

@@ -1,3 +1,4 @@
+-- `put_numbers`: the first number is written, and then a comma and a number at each turn; what is still to be written has its room throughout.
 use native.Mathlib.Omega.{arith}
 use mathlib.Core.Path.{◌≡◌, refl, ◌∙◌}
 use Prim.Native.Nat.{◌+◌}
@@ -50,7 +51,8 @@ pub bounds-out-next : goal.bounds-out-next
 bounds-out-next c = omega (arith, some (goal.at.bounds-out-next c).In-loop-k, c.loop-k.invariant.4)
 
 pub put_number-next-requires-in-loop-k : goal.put_number-next-requires-in-loop-k
-put_number-next-requires-in-loop-k c = simp length-set (omega (arith, more (goal.at.put_number-next-requires-in-loop-k c).After-wide-in-loop-k, c.loop-k.invariant.4))
+put_number-next-requires-in-loop-k c =
+    simp length-set (omega (arith, more (goal.at.put_number-next-requires-in-loop-k c).After-wide-in-loop-k, c.loop-k.invariant.4))
 
 pub loop-k-preserved : goal.loop-k-preserved
 loop-k-preserved c = (

@@ -8,7 +8,8 @@ use Rattle.numbers.specs.Printed.{continued}
 use Rattle.printing.proofs.put_numbers.Given as goal
 
 abbrev pub invariant-loop-k : goal.invariant-loop-k
-invariant-loop-k l = (l.k ≤ length l.values) × (length l.out ≡ length l.initial.out) × (sets l.initial.out l.initial.next (continued (drop 1 l.values)) ≡ sets l.out l.next (continued (drop l.k l.values)))
+invariant-loop-k l = (l.k ≤ length l.values) × (length l.out ≡ length l.initial.out)
+    × (sets l.initial.out l.initial.next (continued (drop 1 l.values)) ≡ sets l.out l.next (continued (drop l.k l.values)))
     × (l.initial.next + length (continued (drop 1 l.values)) ≡ l.next + length (continued (drop l.k l.values)))
     × (l.next + length (continued (drop l.k l.values)) ≤ length l.out)
 

@@ -1,3 +1,5 @@
+-- `choose_states`: the range of a node is one, so it has a nearest state; a turn gives one node more its state, and after the last turn all have
+-- theirs.
 use Rattle.reconstructions.proofs.Choosing.{chosen-all, range-fits-at, chosen_at}
 use Rattle.reconstructions.proofs.choose_states.Goals as goal
 

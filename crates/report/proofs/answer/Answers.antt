@@ -1,5 +1,6 @@
 -- What was read of a sheet is its front, of 32,769 bytes at most.
-use Rattle.std.proofs.Common.{◌≡◌, ℕ, ◌≤◌, ◌<◌, List, [], ◌++◌, length, take, arith, sym, ap, ◌∙◌, subst, IfSome, OnOk, None, Some, Ok, Err, take_all, append-nil}
+use Rattle.std.proofs.Common.{◌≡◌, ℕ, ◌≤◌, ◌<◌, List, [], ◌++◌, length, take, arith, sym, ap, ◌∙◌}
+use Rattle.std.proofs.Common.{subst, IfSome, OnOk, None, Some, Ok, Err, take_all, append-nil}
 use Rattle.std.specs.declared.option.Option.{Option}
 use Rattle.std.specs.declared.result.Result.{Result}
 use Rattle.std.specs.Io.KnownBytes.{Consumes, IsAtEnd}
@@ -40,6 +41,7 @@ of_sheet (Err e) before text P Q Gains known gains = tt
 
 pub returns : goal.returns
 returns g c =
-    of_sheet c.write_report.result (g.R.Read.remaining c.args.input.now) _ _ _ (λ sheet. GainsReport sheet (g.W.Write.contents c.args.output.now) (g.W.Write.contents c.write_report.new.output))
+    of_sheet c.write_report.result (g.R.Read.remaining c.args.input.now) _ _ _
+    (λ sheet. GainsReport sheet (g.W.Write.contents c.args.output.now) (g.W.Write.contents c.write_report.new.output))
     (λ full. front 32769 _ _ _ _ (c.read_full.auto.text ∙ full) c.in_ok-size.ensures.within c.in_ok-size.ensures.bytes c.in_ok-size.ensures.end)
     c.write_report.ensures

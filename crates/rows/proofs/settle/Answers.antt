@@ -1,3 +1,4 @@
+-- `settle`: a character's entries can be settled at its turn, and so one character more is.
 use Rattle.std.proofs.Common.{rules}
 use Rattle.rows.proofs.Rows.{placed, one_more}
 use Rattle.rows.proofs.settle.Goals as goal

@@ -1,3 +1,4 @@
+-- `scan`: the first line is refused, or the second, or n or c is outside its limits; else the body is read, and its answer is the scan's.
 use Rattle.std.proofs.Common.{rules}
 use native.Mathlib.Omega.{arith}
 use mathlib.Core.Path.{◌≡◌, sym, ◌∙◌}

@@ -1,3 +1,4 @@
+-- `descendants`: an entry is a node of the table, so the lists have its place; a turn notes one node more with its ancestor.
 use Rattle.std.proofs.Common.{rules}
 use native.Mathlib.Omega.{arith}
 use Prim.Native.Nat.{◌+◌, ◌≤◌}

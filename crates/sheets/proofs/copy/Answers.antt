@@ -1,3 +1,4 @@
+-- `copy`: a turn copies one number more, and the slice stays as long as it was.
 use Rattle.std.proofs.Common.{rules}
 use native.Mathlib.Omega.{arith}
 use lib.ListN.{length-set}

@@ -1,3 +1,4 @@
+-- `read_sheet`: what the scan lists fits the two slices, so it can be copied into them, and what then stands there is what is promised.
 use native.Mathlib.Omega.{arith}
 use mathlib.Core.Path.{◌≡◌}
 use Prim.Native.Nat.{◌+◌, ◌≤◌}
@@ -11,7 +12,8 @@ long : (c : After-scan-answer) → length c.scan-answer.new.out ≡ 16384
 long c = scanned_long c.args.text.now c.scan-answer.result c.scan-answer.new.out c.scan-answer.ensures
 
 -- what the answer fills has its room
-room : (c : After-filled_by-filled) → (c.filled_by-filled.result.nodes ≤ 510) × (c.filled_by-filled.result.nodes + c.filled_by-filled.result.cells ≤ 16384)
+room : (c : After-filled_by-filled) → (c.filled_by-filled.result.nodes ≤ 510)
+    × (c.filled_by-filled.result.nodes + c.filled_by-filled.result.cells ≤ 16384)
 room c =
     let (a, b) = fits-room c.scan-answer.result (scanned_fits c.args.text.now c.scan-answer.result
     c.scan-answer.new.out c.scan-answer.ensures) in

@@ -1,3 +1,4 @@
+-- `take_block`: a stretch is n-2 entries wide; a turn takes one character more into its own.
 use native.Mathlib.Omega.{arith}
 use mathlib.Core.Path.{◌≡◌}
 use Prim.Native.Nat.{◌+◌, ◌-◌, ◌*◌}

@@ -1,3 +1,4 @@
+-- `sum_lengths`: a stretch is n-2 entries wide and holds the top's entry, and a length is small; a turn adds one character more.
 use native.Mathlib.Omega.{arith}
 use mathlib.Core.Path.{◌≡◌}
 use Prim.Native.Nat.{◌+◌, ◌-◌, ◌*◌}

@@ -7,7 +7,8 @@ use Rattle.tallies.specs.Tallies.{length_in}
 use Rattle.tallies.proofs.sum_lengths.Given as goal
 
 abbrev pub invariant-loop-j : goal.invariant-loop-j
-invariant-loop-j l = (l.j ≤ l.c) × (l.total ≤ 5099490 * l.j) × ((tree : List ℕ) → l.total ≡ sum (length_in l.n l.c l.root l.top tree l.matrix l.lows l.highs l.lengths) (from 1 l.j))
+invariant-loop-j l = (l.j ≤ l.c) × (l.total ≤ 5099490 * l.j)
+    × ((tree : List ℕ) → l.total ≡ sum (length_in l.n l.c l.root l.top tree l.matrix l.lows l.highs l.lengths) (from 1 l.j))
 
 abbrev pub decreases-loop-j : goal.decreases-loop-j
 decreases-loop-j l = l.c - l.j

@@ -1,3 +1,4 @@
+-- `add_block`: a length is at most 9999 for each of 255 branches, so the sum fits; a turn adds one character more.
 use native.Mathlib.Omega.{arith}
 use Prim.Native.Nat.{◌+◌, ◌≤◌}
 use Rattle.parsimony.proofs.Sums.{sum_next}

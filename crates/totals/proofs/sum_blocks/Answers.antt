@@ -1,3 +1,4 @@
+-- `sum_blocks`: a block that has passed can be added, and the sum is then that of its characters too; at the end it is that of all.
 use Rattle.totals.proofs.Blocks.{sums_all, adds, sums_on}
 use Rattle.totals.proofs.sum_blocks.Goals as goal
 

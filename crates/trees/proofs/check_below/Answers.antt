@@ -35,4 +35,5 @@ descendant_of-descendant-requires c =
 pub returns : goal.returns
 returns c =
     accepted _ c.args.tree.now _ c.requires.0 c.requires.1
-    (none-stray (goal.at.returns c).In_default) (none-wrong (goal.at.returns c).In_default-wrong) (all-reach (goal.at.returns c).In_default-lost) _ c.descendant_of-descendant.ensures.2
+    (none-stray (goal.at.returns c).In_default) (none-wrong (goal.at.returns c).In_default-wrong)
+    (all-reach (goal.at.returns c).In_default-lost) _ c.descendant_of-descendant.ensures.2

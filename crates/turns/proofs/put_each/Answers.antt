@@ -1,3 +1,4 @@
+-- `put_each`: the six lists go from turn to turn; a turn writes the lines of one character more.
 use Rattle.scores.specs.Scores.{Results}
 use Rattle.turns.proofs.Writing.{turned_none, turned_more}
 use Rattle.turns.proofs.put_each.Goals as goal
@@ -44,6 +45,8 @@ loop-character-init c =
 
 pub loop-character-preserved : goal.loop-character-preserved
 loop-character-preserved c =
-    turned_more c.args.n c.args.c c.args.resolve c.args.tree.now c.args.matrix.now c.args.out.now c.args.at (lists_at (goal.at.loop-character-preserved c).At-loop-character)
-    c.loop-character.out c.loop-character.next c.loop-character.character c.loop-character.invariant c.loop-character-test.true (lists-after (goal.at.loop-character-preserved c).After-put_one-next) _ _
+    turned_more c.args.n c.args.c c.args.resolve c.args.tree.now c.args.matrix.now c.args.out.now c.args.at
+    (lists_at (goal.at.loop-character-preserved c).At-loop-character)
+    c.loop-character.out c.loop-character.next c.loop-character.character c.loop-character.invariant c.loop-character-test.true
+    (lists-after (goal.at.loop-character-preserved c).After-put_one-next) _ _
     c.put_one-next.ensures
