@@ -8,6 +8,7 @@
 // 13 and 17; slices that receive final ranges hold 60000 in each entry.
 #![tactic(auto)]
 
+mod building;
 mod reading;
 mod writing;
 
@@ -15,94 +16,6 @@ ghost use Rattle.std.specs.Prelude.{◌≡◌, ◌≤◌, ◌<◌, min, length};
 
 use refusals::wide;
 use std::io;
-
-// ---- rooms, of which a call is lent the beginnings
-
-fn room(value: u16) -> [u16; 2500]
-    ensures { 2500 ≡ length result }
-{
-    [value; 2500]
-}
-
-fn length_room(value: u32) -> [u32; 2500]
-    ensures { 2500 ≡ length result }
-{
-    [value; 2500]
-}
-
-// ---- a table built, here and afresh
-
-fn build(
-    rt: &impl Print,
-    name: &str,
-    n: usize,
-    c: usize,
-    tree: &[u16],
-    matrix: &[u16],
-    lows: &mut [u16],
-    highs: &mut [u16],
-    lengths: &mut [u32],
-) -> io::Result<()> {
-    let built = kept::build(n, c, tree, matrix, lows, highs, lengths);
-    writing::put_built(rt, name, built)?;
-    writing::put_table(rt, lows, highs, lengths)
-}
-
-fn lend_fresh(
-    rt: &impl Print,
-    n: usize,
-    c: usize,
-    tree: &[u16],
-    matrix: &[u16],
-    i: usize,
-    j: usize,
-    k: usize,
-    lows: &mut [u16],
-    highs: &mut [u16],
-    lengths: &mut [u32],
-) -> io::Result<()>
-    requires { (i ≤ length lows.old) × (j ≤ length highs.old) × (k ≤ length lengths.old) }
-{
-    build(
-        rt,
-        "\n  fresh ",
-        n,
-        c,
-        tree,
-        matrix,
-        &mut lows[..i],
-        &mut highs[..j],
-        &mut lengths[..k],
-    )
-}
-
-fn build_fresh(
-    rt: &impl Print,
-    n: usize,
-    c: usize,
-    tree: &[u16],
-    matrix: &[u16],
-    i: usize,
-    j: usize,
-    k: usize,
-) -> io::Result<()> {
-    let mut lows = room(0);
-    let mut highs = room(0);
-    let mut lengths = length_room(0);
-    lend_fresh(
-        rt,
-        n,
-        c,
-        tree,
-        matrix,
-        reading::least(i, 2500),
-        reading::least(j, 2500),
-        reading::least(k, 2500),
-        &mut lows,
-        &mut highs,
-        &mut lengths,
-    )
-}
 
 // ---- what is asked of a table
 
@@ -183,8 +96,8 @@ fn ask(
 ) -> io::Result<()> {
     let length = kept::kept_length(n, c, tree, matrix, lows, highs, lengths);
     writing::put_length(rt, "\n  tree ", length)?;
-    let mut final_lows = room(60000);
-    let mut final_highs = room(60000);
+    let mut final_lows = building::room(60000);
+    let mut final_highs = building::room(60000);
     lend_finals(
         rt,
         n,
@@ -237,7 +150,7 @@ fn correct(
     writing::put_count(rt, count)?;
     writing::put_digest(rt, " matrix=", matrix)?;
     writing::put_table(rt, lows, highs, lengths)?;
-    build_fresh(
+    building::build_fresh(
         rt,
         n,
         c,
@@ -299,7 +212,7 @@ fn make_table(
 ) -> io::Result<usize> {
     let given = reading::next_number(text, at);
     if given.value == 0 {
-        build(rt, "", n, c, tree, matrix, lows, highs, lengths)?;
+        building::build(rt, "", n, c, tree, matrix, lows, highs, lengths)?;
         print!(rt; "\n")?;
         return Ok(given.next);
     }
@@ -386,11 +299,11 @@ fn one_table(rt: &impl Print, text: &[u8], at: usize) -> io::Result<usize> {
     let c = reading::next_number(text, n.next);
     let mut lens = [0u16; 5];
     let next = reading::read_list(text, c.next, &mut lens);
-    let mut tree = room(0);
-    let mut matrix = room(0);
-    let mut lows = room(11);
-    let mut highs = room(13);
-    let mut lengths = length_room(17);
+    let mut tree = building::room(0);
+    let mut matrix = building::room(0);
+    let mut lows = building::room(11);
+    let mut highs = building::room(13);
+    let mut lengths = building::length_room(17);
     lend(
         rt,
         wide(n.value),
