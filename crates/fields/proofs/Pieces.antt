@@ -9,6 +9,10 @@ use lib.Seq.{sets, length-sets}
 use Rattle.numbers.proofs.Lists.{sets_append}
 use Rattle.printing.specs.Writing.{Written}
 
+-- a piece written leaves the list as long as it was
+pub written-size : {before mid : List ℕ} {at next : ℕ} {a : List ℕ} → Written before mid at next a → length mid ≡ length before
+written-size {before} {at = at} {a = a} w = ap length w.list ∙ length-sets before at a
+
 -- the first piece has room where both have
 pub room-first : (at : ℕ) (a b : List ℕ) (size : ℕ) → at + length (a ++ b) ≤ size → at + length a ≤ size
 room-first at a b size h = omega (arith, length-append a b)
@@ -17,7 +21,7 @@ room-first at a b size h = omega (arith, length-append a b)
 pub room-rest : (before mid : List ℕ) (at next : ℕ) (a b : List ℕ) → Written before mid at next a → at + length (a ++ b) ≤ length before
     → next + length b ≤ length mid
 room-rest before mid at next a b w h =
-    omega (arith, length-append a b, w.next_is, ap length w.list, length-sets before at a)
+    omega (arith, length-append a b, w.next_is, written-size w)
 
 -- nothing written is written
 pub written_none : (out : List ℕ) (at : ℕ) → Written out out at at []

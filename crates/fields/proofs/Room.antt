@@ -1,11 +1,9 @@
 -- How much room the values of a report need: a number below 2 ^ 32 has 10 digits at the most, and thousandths 4.
 -- Assumes nothing.
-use mathlib.Core.Path.{ap}
 use mathlib.Core.List.{List, ◌++◌}
 use Prim.Native.Nat.{ℕ, ◌+◌, ◌≤◌, ◌<◌}
 use native.Mathlib.Omega.{arith}
 use lib.ListN.{length, length-append}
-use lib.Seq.{length-sets}
 use Rattle.numbers.specs.Printed.{decimal}
 use Rattle.printing.specs.Writing.{Written}
 use Rattle.printing.proofs.Laws.{written_both}
@@ -13,12 +11,16 @@ use Rattle.printing.proofs.Lengths.{decimal-short}
 use Rattle.fields.specs.Fields.{byte, field, fraction, thousandths}
 use Rattle.fields.specs.Proper.{AtMost}
 use Rattle.fields.specs.Fitting.{Fitting}
+use Rattle.fields.proofs.Pieces.{written-size}
 use Rattle.fields.proofs.Rounding.{thousandths-most}
 
 -- ---- numbers
 
 pub ten_digits : (v : ℕ) → v < 4294967296 → length (decimal v) ≤ 10
 ten_digits v h = decimal-short 9 v (omega arith)
+
+pub four_digits : (over under : ℕ) → AtMost over under → length (decimal (thousandths over under)) ≤ 4
+four_digits over under h = decimal-short 3 (thousandths over under) (omega (arith, thousandths-most over under h))
 
 pub fraction-short : (over under : ℕ) → over < 4294967296 → under < 4294967296 → AtMost over under → length (fraction over under) ≤ 26
 fraction-short over under p q h =
@@ -28,7 +30,7 @@ fraction-short over under p q h =
       length-append (decimal under) (byte 44 ++ decimal (thousandths over under)),
       ten_digits over p,
       ten_digits under q,
-      decimal-short 3 (thousandths over under) (omega (arith, thousandths-most over under h)),
+      four_digits over under h,
     )
 
 -- a line, from the room of its value
@@ -59,4 +61,4 @@ fitting-both a b before mid after at next end p q f g =
 pub fitting-rest : (before mid : List ℕ) (at next : ℕ) (a : List ℕ) (p q : ℕ) → Fitting before mid at next a p → at + (p + q) ≤ length before
     → next + q ≤ length mid
 fitting-rest before mid at next a p q f h =
-    omega (arith, f.written.next_is, f.short, ap length f.written.list, length-sets before at a)
+    omega (arith, f.written.next_is, f.short, written-size f.written)

@@ -6,11 +6,11 @@ use Prim.Native.Nat.{ℕ, ◌+◌, ◌≤◌, ◌<◌}
 use native.Mathlib.Numerals.{add-one}
 use native.Mathlib.Omega.{arith}
 use lib.ListN.{length, get_or, drop, drop_of_length-le, length-append}
-use lib.Seq.{sets, length-sets, drop-cons}
+use lib.Seq.{sets, drop-cons}
 use Rattle.printing.specs.Writing.{Written}
 use Rattle.printing.proofs.Laws.{written_both}
 use Rattle.fields.specs.Fields.{byte, field}
-use Rattle.fields.proofs.Pieces.{still}
+use Rattle.fields.proofs.Pieces.{written-size, still}
 use Rattle.listings.specs.Ranges.{range, more_ranges, ranges}
 
 -- the first range, and the others
@@ -81,10 +81,10 @@ module _ (start : List ℕ) (at : ℕ) (lows highs : List ℕ) (same : length lo
       record {
         some = omega arith;
         most = omega arith;
-        size = ap length both.list ∙ length-sets out next piece ∙ w.size;
+        size = written-size both ∙ w.size;
         list = w.list ∙ ap (sets out next) (more-step lows highs k h same) ∙ still out out' next next' piece more both;
         end = omega (arith, w.end, both.next_is);
-        room = omega (arith, w.room, both.next_is, ap length both.list, length-sets out next piece);
+        room = omega (arith, w.room, both.next_is, written-size both);
       }
 
   pub ended : length lows ≤ k → Written start out at next (more_ranges (drop 1 lows) (drop 1 highs))
