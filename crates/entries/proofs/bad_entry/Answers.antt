@@ -1,19 +1,11 @@
 -- `bad_entry`: a character is looked at in its own stretch, which is n-2 entries wide; the first bad entry found is the first of all.
 use native.Mathlib.Omega.{arith}
-use mathlib.Core.Path.{◌≡◌}
-use Prim.Native.Nat.{◌+◌, ◌-◌, ◌*◌}
 use Rattle.entries.proofs.Searching.{entry_found}
 use Rattle.entries.proofs.bad_entry.Goals as goal
-use Rattle.entries.proofs.bad_entry.Goals.{In-loop-j}
-
--- from one end of a stretch to the other
-wide : (c : In-loop-j) → c.loop-j.j * (c.args.n - 2) + (c.args.n - 2) -
-    c.loop-j.j * (c.args.n - 2) ≡ c.args.n - 2
-wide c = omega arith
 
 pub returns-in-At : goal.returns-in-At
 returns-in-At c =
     entry_found _ _ c.args.lows.now c.args.highs.now
     c.args.lengths.now c.requires _ c.loop-j-test.true _
-    (wide (goal.at.returns-in-At c).In-loop-j) c.loop-j.invariant.1 _ c.bad_node-found.ensures _
+    (omega arith) c.loop-j.invariant.1 _ c.bad_node-found.ensures _
     c.in-At.is

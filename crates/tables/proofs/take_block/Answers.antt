@@ -1,16 +1,7 @@
 -- `take_block`: a stretch is n-2 entries wide; a turn takes one character more into its own.
 use native.Mathlib.Omega.{arith}
-use mathlib.Core.Path.{◌≡◌}
-use Prim.Native.Nat.{◌+◌, ◌-◌, ◌*◌}
 use Rattle.tables.proofs.Building.{built-on}
 use Rattle.tables.proofs.take_block.Goals as goal
-use Rattle.tables.proofs.take_block.Goals.{In-loop-i}
-
--- from one end of a stretch to the other
-wide : (c : In-loop-i) → (c.args.past + c.loop-i.i) * (c.args.n - 2) +
-    (c.args.n - 2) - (c.args.past + c.loop-i.i) * (c.args.n - 2)
-    ≡ c.args.n - 2
-wide c = omega arith
 
 pub loop-i-preserved : goal.loop-i-preserved
 loop-i-preserved c = (
@@ -23,5 +14,5 @@ loop-i-preserved c = (
       c.args.lengths.now c.requires _ c.loop-i-test.true
       c.loop-i.lows c.loop-i.highs c.loop-i.lengths
       c.loop-i.invariant.1 _ _ _ c.take_character.ensures _
-      (wide (goal.at.loop-i-preserved c).In-loop-i),
+      (omega arith),
 )
