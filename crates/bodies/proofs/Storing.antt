@@ -1,4 +1,4 @@
--- The ancestors and the cells of a sheet, stored in a list one after the other; and what a scan then says.
+-- What a text is, as far as its lines were read and their numbers stored in a list one after the other; and what a scan then says.
 -- Assumes nothing.
 use mathlib.Core.Path.{◌≡◌, refl, sym, ap, subst, ◌∙◌}
 use mathlib.Core.List.{List, [], ◌++◌, flatten, append_assoc}
@@ -10,36 +10,26 @@ use Rattle.choices.specs.declared.Resolve.{Resolve}
 use Rattle.choices.specs.declared.Resolve.TheVariants.{Acctran}
 use Rattle.refusals.specs.declared.Refusal.{Refusal}
 use Rattle.refusals.specs.Checks.{Refuses}
-use Rattle.lines.specs.declared.Line.{Line}
-use Rattle.lines.specs.declared.Rows.{Rows}
+use Rattle.lines.specs.declared.Line.TheVariants as line
+use Rattle.lines.specs.declared.Rows.TheVariants as rows
 use Rattle.lines.specs.Lines.{Numbers, line_at, all, numbers_of, Stored, Table, rows_at, whole, cells_of, StoredRows}
+use Rattle.lines.proofs.Laws.{line-good, line_bad, rows_in, rows-good, rows-wrong}
+use Rattle.lines.proofs.Round.{RowsBack, rows_cut}
 use Rattle.forms.specs.Sheets.{Sheet, choice, IsSheet, Within, unsaid, said, resolve_line, ancestors_key}
 use Rattle.forms.specs.Faults.{text_checks}
 use Rattle.forms.specs.Parts.{Heads}
-use Rattle.forms.proofs.Forms.{sheet_read}
-use Rattle.forms.proofs.Reading.{third_read, rows_are, rows-room, sheet_nothing, sheet-choice}
+use Rattle.forms.proofs.Forms.{Third, sheet_read}
+use Rattle.forms.proofs.Faults.{refused_third, refused_row, refused_end}
+use Rattle.forms.proofs.Reading.{third_read, third_reach, rows_are, rows_inside, rows-room, sheet_nothing, sheet-choice}
 use Rattle.bodies.specs.declared.SheetAnswer.{SheetAnswer}
 use Rattle.bodies.specs.declared.SheetAnswer.TheVariants.{Refused}
-use Rattle.bodies.specs.declared.Ending.{Ending}
+use Rattle.bodies.specs.declared.Ending.TheVariants.{Wrong}
 use Rattle.bodies.specs.Scanned.{Ends, Holds, Scanned}
 
 -- a refusal that was returned
 pub refused_as : (text : List ℕ) (r : SheetAnswer) (q : Refusal) (out : List ℕ) → r ≡ Refused q → Refuses (text_checks text) q → length out ≡ 16384
     → Scanned text r out
 refused_as text r q out e h l = subst (λ (a : SheetAnswer). Scanned text a out) (sym e) (h, l)
-
--- storing leaves a list as long as it was
-pub line-long : (v : Numbers) (out : List ℕ) (from : ℕ) (r : Line) (out' : List ℕ) → Stored v out from r out' → length out ≡ 16384
-    → length out' ≡ 16384
-line-long v out from r out' S l = ap length S.list ∙ length-sets out from (numbers_of v) ∙ l
-
-pub rows_long : (t : Table) (out : List ℕ) (from : ℕ) (r : Rows) (out' : List ℕ) → StoredRows t out from r out' → length out ≡ 16384
-    → length out' ≡ 16384
-rows_long t out from r out' S l = ap length S.list ∙ length-sets out from (cells_of t) ∙ l
-
--- what stands after the rows, once it is known
-pub ends_as : (rest : List ℕ) (k : ℕ) (r r' : Ending) → r ≡ r' → Ends rest k r → Ends rest k r'
-ends_as rest k r r' e h = subst (Ends rest k) e h
 
 -- ---- the numbers stored
 
@@ -72,21 +62,76 @@ holds text s out out₁ out₂ S room long e f =
       long = ap length whole ∙ length-sets _ (length s.ancestors) (flatten s.rows) ∙ length-sets out 0 s.ancestors ∙ long;
     }
 
--- a text whose lines are all read, with its numbers stored
-module _ (text : List ℕ) (n c i : ℕ) (H : Heads text n c i) (W : Within n c)
-    (tree : List ℕ) (j : ℕ) (e : line_at text ancestors_key (2 * n - 2) i ≡ all tree j)
-    (rs : List (List ℕ)) (next : ℕ) (f : rows_at text c n 4 j ≡ whole rs next)
-    (short : length text ≤ 32768) (out out₁ out₂ : List ℕ) (long : length out ≡ 16384)
-    (g : out₁ ≡ sets out 0 tree) (h : out₂ ≡ sets out₁ (2 * n - 2) (flatten rs)) where
-  stored : out₂ ≡ sets out₁ (length tree) (flatten rs)
-  stored = h ∙ ap (λ (m : ℕ). sets out₁ m (flatten rs)) (sym (third_read text n c i H W tree j e).nodes)
+-- ---- the lines after the heads, read one after the other
 
-  pub done_nothing : drop next text ≡ [] → Holds text n c Acctran out₂
-  done_nothing d =
-      holds text (sheet_read text n c tree i j (third_read text n c i H W tree j e) rs next (rows_are text n c i H W tree j e rs next f) unsaid)
-      out out₁ out₂ (sheet_nothing text n c i H W tree j e rs next f short d) (rows-room text n c i H W tree j e rs next f short) long g stored
+module _ {text : List ℕ} {n c i : ℕ} (H : Heads text n c i) (W : Within n c) (short : length text ≤ 32768) where
+  -- the line of the ancestors, and the rows that stand from j on
+  abbrev third_line : Numbers
+  third_line = line_at text ancestors_key (2 * n - 2) i
 
-  pub done_choice : (r : Resolve) → drop next text ≡ resolve_line r → Holds text n c r out₂
-  done_choice r d =
-      holds text (sheet_read text n c tree i j (third_read text n c i H W tree j e) rs next (rows_are text n c i H W tree j e rs next f) (said r))
-      out out₁ out₂ (sheet-choice text n c i H W tree j e rs next f short r d) (rows-room text n c i H W tree j e rs next f short) long g stored
+  abbrev table_at : ℕ → Table
+  table_at j = rows_at text c n 4 j
+
+  -- the line of the ancestors is not in form
+  pub wrong_third : {out out₁ : List ℕ} → Stored third_line out 0 line.Bad out₁ → Refuses (text_checks text) (record { number = 11; place = 3 })
+  wrong_third S = refused_third text short n c i H _ W (line_bad third_line S.told)
+
+  -- it is in form, and ends at j; the ancestors are stored
+  module _ {j : ℕ} {out out₁ : List ℕ} (S : Stored third_line out 0 (line.Good j) out₁) where
+    abbrev tree : List ℕ
+    tree = numbers_of third_line
+
+    tree_read : third_line ≡ all tree j
+    tree_read = line-good third_line j S.told
+
+    third : Third text n c tree i j
+    third = third_read text n c i H W tree j tree_read
+
+    pub third_end : (i + 2 * (2 * n - 2) ≤ j) × (j ≤ length text)
+    third_end = third_reach text n c i H W tree j tree_read
+
+    -- a row is not in form
+    pub wrong_row : {l : ℕ} {out₂ : List ℕ} → StoredRows (table_at j) out₁ (2 * n - 2) (rows.Wrong l) out₂
+        → Refuses (text_checks text) (record { number = 11; place = l })
+    wrong_row {l} R =
+        refused_row text short n c tree i j third l
+        (rows_cut text c W.least_characters n 4 j l _ (rows-wrong (table_at j) l R.told))
+
+    -- the rows are in form, and end at `next`; the cells are stored after the ancestors
+    module _ {next : ℕ} {out₂ : List ℕ} (R : StoredRows (table_at j) out₁ (2 * n - 2) (rows.All next) out₂) where
+      abbrev cells : List (List ℕ)
+      cells = rows_in (table_at j)
+
+      rows_read : table_at j ≡ whole cells next
+      rows_read = rows-good (table_at j) next R.told
+
+      back : RowsBack text c n j cells next
+      back = rows_are text n c i H W tree j tree_read cells next rows_read
+
+      pub rows_end : next ≤ length text
+      rows_end = rows_inside text n c i H W tree j tree_read cells next rows_read
+
+      -- what stands after them is not in form
+      pub wrong_end : {l : ℕ} → Ends (drop next text) (4 + n) (Wrong l) → Refuses (text_checks text) (record { number = 11; place = l })
+      wrong_end {l} e = refused_end text short n c tree i j third cells next back l e
+
+      -- it is: the text is a sheet, and its numbers are stored
+      module _ (long : length out ≡ 16384) where
+        stored : out₂ ≡ sets out₁ (length tree) (flatten cells)
+        stored =
+            R.list
+            ∙ ap (λ (t : Table). sets out₁ (2 * n - 2) (cells_of t)) rows_read
+            ∙ ap (λ (m : ℕ). sets out₁ m (flatten cells)) (sym third.nodes)
+
+        room : length tree + length (flatten cells) ≤ 16384
+        room = rows-room text n c i H W tree j tree_read cells next rows_read short
+
+        pub done_nothing : drop next text ≡ [] → Holds text n c Acctran out₂
+        done_nothing d =
+            holds text (sheet_read text n c tree i j third cells next back unsaid) out out₁ out₂
+            (sheet_nothing text n c i H W tree j tree_read cells next rows_read short d) room long S.list stored
+
+        pub done_choice : {r : Resolve} → drop next text ≡ resolve_line r → Holds text n c r out₂
+        done_choice {r} d =
+            holds text (sheet_read text n c tree i j third cells next back (said r)) out out₁ out₂
+            (sheet-choice text n c i H W tree j tree_read cells next rows_read short r d) room long S.list stored

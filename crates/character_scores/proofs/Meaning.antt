@@ -3,7 +3,6 @@
 use mathlib.Core.Path.{◌≡◌, sym, ◌∙◌, subst}
 use mathlib.Core.List.{List}
 use Prim.Native.Nat.{ℕ, ◌-◌, ◌≤◌, ◌<◌}
-use native.Mathlib.Omega.{arith}
 use lib.ListN.{length}
 use Rattle.parsimony.specs.Ordered.{ordered}
 use Rattle.parsimony.specs.Way.{length_of}
@@ -16,32 +15,28 @@ use Rattle.parsimony.proofs.Characters.{range-inner, way-taxon, first-means, len
 use Rattle.parsimony.proofs.Uniqueness.{one-least}
 use Rattle.parsimony.proofs.Tables.Trees.{Tree}
 use Rattle.shapes.specs.Shape.{Filled}
-use Rattle.orders.specs.Orders.{IsOrder}
+use Rattle.orders.specs.Orders.{IsOrder, Listed}
 use Rattle.shapes.specs.Filling.{Orders}
-use Rattle.indices.specs.Indices.{Readable}
 use Rattle.descents.specs.Descents.{Descends, Finals}
 use Rattle.reconstructions.specs.Reconstructions.{Chooses, list_of}
 use Rattle.choices.specs.declared.Resolve.{Resolve}
 use Rattle.choices.specs.declared.Resolve.TheVariants.{Acctran, Deltran}
 use Rattle.scores.specs.declared.Scores.{Scores}
 use Rattle.scores.specs.Scores.{Results, ranges_of, CharacterMeans}
-use Rattle.first_passes.specs.FirstPasses.{Given, BegunIn}
+use Rattle.first_passes.specs.FirstPasses.{Begun, BegunIn}
 use Rattle.scores.specs.Steps.{HasScores}
 use Rattle.character_scores.specs.CharacterScores.{GivenOne}
 
 -- ---- what the steps ask
 
-module _ (n c j ρ δ : ℕ) (tree matrix : List ℕ) (before : Results) (G : GivenOne n c j ρ δ tree matrix before) where
-  pub orders : (left right : List ℕ) → Filled n tree left right → Orders n δ tree ρ left right
-  orders left right F = record { sized = G.sized; accepted = G.accepted; shape = F }
+module _ {n c j ρ δ : ℕ} {tree matrix : List ℕ} {before : Results} (G : GivenOne n c j ρ δ tree matrix before) where
+  -- the same of the root and its descendant as wider numbers
+  pub wider : {ρ' δ' : ℕ} → ρ' ≡ ρ → δ' ≡ δ → GivenOne n c j ρ' δ' tree matrix before
+  wider e f = rw e (rw f G)
 
-  pub given : (left right : List ℕ) → Filled n tree left right → Given n c j ρ δ left right matrix
-  given left right F =
-      record { tree = tree; orders = orders left right F; some = G.some; most = G.most; rows = G.rows; small = G.small }
-
-  pub descends : (order lows highs : List ℕ) → IsOrder n tree δ order → length lows ≡ n - 2 → length highs ≡ n - 2
+  pub descends : {order lows highs : List ℕ} → IsOrder n tree δ order → length lows ≡ n - 2 → length highs ≡ n - 2
       → ((v : ℕ) → n < v → v ≤ length tree → at_node n lows v ≤ at_node n highs v) → Descends n c j ρ δ tree matrix order lows highs
-  descends order lows highs O l h f =
+  descends O l h f =
       record {
         sized = G.sized;
         accepted = G.accepted;
@@ -54,13 +49,21 @@ module _ (n c j ρ δ : ℕ) (tree matrix : List ℕ) (before : Results) (G : Gi
         fits = f;
       }
 
-  pub readable : Readable n c j matrix
-  readable =
-      record { least = omega (arith, G.sized.least); most = G.sized.most; some = G.some; within = G.most; cells = G.rows }
+  -- what the order and the first pass leave, of this tree
+  module _ {left right : List ℕ} (F : Filled n tree left right) where
+    orders : Orders n δ tree ρ left right
+    orders = record { sized = G.sized; accepted = G.accepted; shape = F }
+
+    pub turns : {δ' : ℕ} {order : List ℕ} → δ' ≡ δ → Listed n δ left right order → IsOrder n tree δ' order
+    turns e L = rw e (L tree ρ orders)
+
+    pub begun : {lows highs lengths : List ℕ} {l : ℕ} → Begun n c j ρ δ left right matrix lows highs lengths l
+        → BegunIn n c j tree matrix lows highs lengths l
+    begun B = B tree orders
 
 -- ---- what they leave
 
-module _ (n c j ρ δ : ℕ) (tree matrix : List ℕ) (before after : Results) (G : GivenOne n c j ρ δ tree matrix before) (l : ℕ)
+module _ {n c j ρ δ : ℕ} {tree matrix : List ℕ} {before : Results} (G : GivenOne n c j ρ δ tree matrix before) (after : Results) {l : ℕ}
     (B : BegunIn n c j tree matrix after.first_lows after.first_highs after.subtree l) where
   abbrev state : ℕ → ℕ
   state = state_of matrix c j
@@ -91,21 +94,21 @@ module _ (n c j ρ δ : ℕ) (tree matrix : List ℕ) (before after : Results) (
     chosen Acctran C = C.chosen
     chosen Deltran C = C.chosen
 
-    pub means : (resolve : Resolve)
+    pub means : {resolve : Resolve}
         → Chooses n c j ρ tree matrix (list_of resolve after.first_lows after.final_lows)
         (list_of resolve after.first_highs after.final_highs)
         after.states
-        → (x a b : ℕ) → a ≡ x → x ≡ index.m n state → b ≡ index.g n state ρ → (s : Scores) → HasScores l a b s
+        → {m g : ℕ} → m ≡ index.m n state → g ≡ index.g n state ρ → {s : Scores} → HasScores l m g s
         → CharacterMeans n state tree ρ resolve after s
-    means resolve C x a b ea ex eb s S =
+    means {resolve} C em eg S =
         let w = way resolve (chosen resolve C) in
         let least = length-least T state after.first_lows after.first_highs after.subtree B.pass in
         record {
           scores =
               record {
                 least = subst (LengthMeans ordered n (cells n state) tree) (sym S.length) B.least;
-                m = S.m ∙ ea ∙ ex;
-                g = S.g ∙ eb;
+                m = S.m ∙ em;
+                g = S.g ∙ eg;
                 indices = S.indices;
               };
           long =

@@ -30,11 +30,11 @@ use Rattle.turns.proofs.Writing.{characters-room}
 
 -- ---- a tree and a matrix
 
-module _ (n c : ℕ) (r : Resolve) (tree matrix before after : List ℕ) (size : ℕ) where
-  pub whole-report : Sized n c tree matrix → (s : Scores) → AllScored n c tree matrix s → (mid : List ℕ) (next : ℕ)
+module _ {n c : ℕ} {r : Resolve} {tree matrix before after : List ℕ} {size : ℕ} where
+  pub whole-report : {s : Scores} {mid : List ℕ} {next : ℕ} → Sized n c tree matrix → AllScored n c tree matrix s
       → Fitting before mid 0 next (tree_lines n c s r) tree_room → Some n c c r tree matrix mid after next size
       → Whole n c r tree matrix before after size
-  whole-report Z s A mid next f S =
+  whole-report {s} {mid} {next} Z A f S =
       record {
         written = report_text n c r s S.found;
         scored = report s S.found (record { scored = A; each = S.each A.ρ A.δ A.accepted });
@@ -55,7 +55,7 @@ module _ (n c : ℕ) (r : Resolve) (tree matrix before after : List ℕ) (size :
 
 -- ---- a text
 
-module _ (text tree matrix : List ℕ) (n c : ℕ) (r : Resolve) (tree' matrix' : List ℕ) (R : Reads text tree matrix n c r tree' matrix') where
+module _ {text tree matrix : List ℕ} {n c : ℕ} {r : Resolve} {tree' matrix' : List ℕ} (R : Reads text tree matrix n c r tree' matrix') where
   nodes : length R.sheet.ancestors ≡ 2 * n - 2
   nodes = R.is_sheet.sized.nodes ∙ ap (λ m. 2 * m - 2) R.taxa_is
 
@@ -75,10 +75,7 @@ module _ (text tree matrix : List ℕ) (n c : ℕ) (r : Resolve) (tree' matrix' 
       ap (λ (l : List ℕ). take (n * c) l) R.matrix_after
       ∙ take_at (flatten R.sheet.rows) (drop (length (flatten R.sheet.rows)) matrix) (n * c) cells
 
-  pub few-nodes : 2 * n - 2 ≤ 510
-  few-nodes = omega (arith, nodes, (sheet-room text R.sheet R.is_sheet).0)
-
-  pub few-cells : n * c ≤ 16384
+  few-cells : n * c ≤ 16384
   few-cells = omega (arith, cells, (sheet-room text R.sheet R.is_sheet).1)
 
   pub sized-sheet : Sized n c (take (2 * n - 2) tree') (take (n * c) matrix')
@@ -97,9 +94,9 @@ module _ (text tree matrix : List ℕ) (n c : ℕ) (r : Resolve) (tree' matrix' 
         few = few-cells;
       }
 
-  pub told-sheet : (out out' : List ℕ) (size : ℕ) → Whole n c r (take (2 * n - 2) tree') (take (n * c) matrix') out out' size
+  pub told-sheet : {out out' : List ℕ} {size : ℕ} → Whole n c r (take (2 * n - 2) tree') (take (n * c) matrix') out out' size
       → Told text out out' size
-  told-sheet out out' size W =
+  told-sheet W =
       record {
         written = W.written;
         says = sheet R.sheet R.is_sheet W.written here;
@@ -112,8 +109,8 @@ module _ (text tree matrix : List ℕ) (n c : ℕ) (r : Resolve) (tree' matrix' 
 
 -- a text that is no sheet: the slices are of the right lengths
 pub told_none : (text tree matrix : List ℕ) → length tree ≡ 510 → length matrix ≡ 16384 → (q : Refusal) → Refuses (sheet_checks text tree matrix) q
-    → (out out' : List ℕ) (size : ℕ) → Fitting out out' 0 size (refused_line q.number q.place) refused_room → Told text out out' size
-told_none text tree matrix h g q R out out' size f =
+    → {out out' : List ℕ} {size : ℕ} → Fitting out out' 0 size (refused_line q.number q.place) refused_room → Told text out out' size
+told_none text tree matrix h g q R {out} {out'} {size} f =
     record {
       written = refused_line q.number q.place;
       says = none q refused;

@@ -1,3 +1,4 @@
+-- `read_choice` stands at a resolve line. If the text ends 16 bytes on, nothing follows that line; and if not, something does, on the line after it.
 use mathlib.Core.Path.{refl}
 use mathlib.Core.Logic.{inr}
 use Rattle.forms.proofs.Endings.{end_choice, end_followed}
