@@ -6,8 +6,6 @@ ghost use Rattle.refusals.specs.Search.{Finds};
 ghost use Rattle.parsimony.specs.Matrix.{state_of};
 ghost use Rattle.cells.specs.Above.{InMatrix, AboveAt, AboveIn};
 
-use refusals::Found;
-
 // The state of a taxon in a character.
 pub fn state_of(c: usize, character: usize, taxon: usize, matrix: &[u16]) -> u16
     requires { InMatrix c character taxon matrix.now }
@@ -18,35 +16,27 @@ pub fn state_of(c: usize, character: usize, taxon: usize, matrix: &[u16]) -> u16
 }
 
 // The lowest cell whose state is above 9999.
-pub fn state_above(n: usize, c: usize, matrix: &[u16]) -> Found
+pub fn state_above(n: usize, c: usize, matrix: &[u16]) -> Option<usize>
     requires { length matrix.now ≡ n * c }
     ensures { Finds (AboveAt matrix.now) (n * c) result }
 {
-    let mut found = Found::Nowhere;
-    'search: for t in 0..n {
-        for j in 0..c {
-            let cell = t * c + j;
-            if 9999 < matrix[cell] {
-                found = Found::At(cell + 1);
-                break 'search;
-            }
+    for (i, state) in matrix.iter().enumerate() {
+        if 9999 < *state {
+            return Some(i + 1);
         }
     }
-    found
+    None
 }
 
 // The lowest taxon whose state in the character is above 9999.
-pub fn taxon_above(n: usize, c: usize, character: usize, matrix: &[u16]) -> Found
+pub fn taxon_above(n: usize, c: usize, character: usize, matrix: &[u16]) -> Option<usize>
     requires { (length matrix.now ≡ n * c) × (1 ≤ character) × (character ≤ c) }
     ensures { Finds (AboveIn matrix.now c character) n result }
 {
-    let j = character - 1;
-    let mut t: usize = 0;
-    while t < n {
-        if 9999 < matrix[t * c + j] {
-            return Found::At(t + 1);
+    for t in 0..n {
+        if 9999 < matrix[t * c + (character - 1)] {
+            return Some(t + 1);
         }
-        t += 1;
     }
-    Found::Nowhere
+    None
 }

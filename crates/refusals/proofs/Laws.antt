@@ -5,8 +5,7 @@ use mathlib.Core.Bool.{Bool, true, false}
 use Prim.Native.Nat.{ℕ, zero, suc, ◌+◌, ◌≤◌, ◌<◌}
 use native.Mathlib.Decide.{ℕ_discrete, dec_le}
 use native.Mathlib.Omega.{arith}
-use Rattle.refusals.specs.declared.Found.{Found}
-use Rattle.refusals.specs.declared.Found.TheVariants.{At, Nowhere}
+use Rattle.std.specs.Prelude.{Option, Some, None}
 use Rattle.refusals.specs.Search.{Lowest, Never, Finds, Tells}
 
 module _ (P : ℕ → Type 0) where
@@ -32,11 +31,11 @@ module _ (P : ℕ → Type 0) where
       below (suc b) k l p q h =
           none k (record { some = p; most = q; holds = h; first = λ j a c. below b j (omega arith) a (omega arith) })
 
-  pub finds_one : (m : ℕ) (r r' : Found) → Finds P m r → Finds P m r' → r ≡ r'
-  finds_one m (At k) (At k') h h' = ap At (lowest-one m k k' h h')
-  finds_one m (At k) Nowhere h h' = absurd (lowest_never m k h h')
-  finds_one m Nowhere (At k) h h' = absurd (lowest_never m k h' h)
-  finds_one m Nowhere Nowhere h h' = refl
+  pub finds_one : (m : ℕ) (r r' : Option ℕ) → Finds P m r → Finds P m r' → r ≡ r'
+  finds_one m (Some k) (Some k') h h' = ap Some (lowest-one m k k' h h')
+  finds_one m (Some k) None h h' = absurd (lowest_never m k h h')
+  finds_one m None (Some k) h h' = absurd (lowest_never m k h' h)
+  finds_one m None None h h' = refl
 
   -- ---- a loop that has passed i numbers and found nothing
 
@@ -64,10 +63,10 @@ module _ (P : ℕ → Type 0) where
 
   -- ---- what a search found, once its answer is known
 
-  pub finds_at : (m k : ℕ) (r : Found) → Finds P m r → r ≡ At k → Lowest P m k
+  pub finds_at : (m k : ℕ) (r : Option ℕ) → Finds P m r → r ≡ Some k → Lowest P m k
   finds_at m k r h e = subst (Finds P m) e h
 
-  pub finds_nowhere : (m : ℕ) (r : Found) → Finds P m r → r ≡ Nowhere → Never P m
+  pub finds_nowhere : (m : ℕ) (r : Option ℕ) → Finds P m r → r ≡ None → Never P m
   finds_nowhere m r h e = subst (Finds P m) e h
 
 -- ---- what a yes or no tells

@@ -1,10 +1,14 @@
 -- A list of checks gives one refusal, and none where none applies; and how checks follow one another.
 -- Assumes nothing.
-use mathlib.Core.Path.{◌≡◌, sym, ◌∙◌}
+use mathlib.Core.Path.{◌≡◌, refl, ap, sym, ◌∙◌}
 use mathlib.Core.Logic.{◌≢◌, inl, inr}
 use mathlib.Core.List.{List, [], ◌∷◌, ◌++◌}
 use Prim.Native.Nat.{ℕ, suc}
+use lib.ListN.{get_or}
+use Rattle.refusals.specs.declared.Reason.{Reason}
+use Rattle.refusals.specs.declared.Reason.TheVariants.{Limits, Length, Root, Entry, Count, Lost, State, Character, Correction, Kept, Form, Long}
 use Rattle.refusals.specs.declared.Refusal.{Refusal}
+use Rattle.refusals.specs.Reasons.{number_of}
 use Rattle.refusals.specs.Search.{Never}
 use Rattle.refusals.specs.Checks.{Check, at, lowest, Clear, Refuses, Passes, Slice, slices}
 use Rattle.refusals.proofs.Laws.{lowest-one, lowest_never}
@@ -35,12 +39,35 @@ sure_slices i (s ∷ ss) = (sure_at 2 i (s.has ≢ s.asked), sure_slices (suc i)
 
 -- ---- one refusal
 
+-- the reason of a number
+abbrev reason_of : ℕ → Reason
+reason_of n = get_or
+    (Long ∷ Limits ∷ Length ∷ Root ∷ Entry ∷ Count ∷ Lost ∷ State ∷ Character ∷ Correction ∷ Kept ∷ Form ∷ []) n Long
+
+back : (r : Reason) → reason_of (number_of r) ≡ r
+back Limits = refl
+back Length = refl
+back Root = refl
+back Entry = refl
+back Count = refl
+back Lost = refl
+back State = refl
+back Character = refl
+back Correction = refl
+back Kept = refl
+back Form = refl
+back Long = refl
+
+-- no two reasons have one number
+pub one-reason : (r r' : Reason) → number_of r ≡ number_of r' → r ≡ r'
+one-reason r r' e = sym (back r) ∙ ap reason_of e ∙ back r'
+
 pub one-refusal : (cs : List {1} Check) → AllSure cs → (r r' : Refusal) → Refuses cs r → Refuses cs r' → r ≡ r'
 one-refusal [] _ r r' x4 _ = elim x4 [ ]
-one-refusal (c ∷ cs) (s, ss) r r' (inl (e, h)) (inl (d, k)) = same (e ∙ sym d) (s r.place r'.place h k)
+one-refusal (c ∷ cs) (s, ss) r r' (inl (e, h)) (inl (d, k)) = same (one-reason r.reason r'.reason (e ∙ sym d)) (s r.place r'.place h k)
   where
-    same : r.number ≡ r'.number → r.place ≡ r'.place → r ≡ r'
-    same a b = λ i. record { number = a i; place = b i }
+    same : r.reason ≡ r'.reason → r.place ≡ r'.place → r ≡ r'
+    same a b = λ i. record { reason = a i; place = b i }
 one-refusal (c ∷ cs) (s, ss) r r' (inl (e, h)) (inr (n, k)) = absurd (n r.place h)
 one-refusal (c ∷ cs) (s, ss) r r' (inr (n, h)) (inl (d, k)) = absurd (n r'.place k)
 one-refusal (c ∷ cs) (s, ss) r r' (inr (n, h)) (inr (m, k)) = one-refusal cs ss r r' h k

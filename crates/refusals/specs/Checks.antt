@@ -2,6 +2,7 @@
 -- Assumes nothing.
 use Rattle.std.specs.Prelude.{◌≡◌, ◌≢◌, ◌⊎◌, List, [], ◌∷◌, ℕ, suc}
 use Rattle.refusals.specs.declared.Refusal.{Refusal}
+use Rattle.refusals.specs.Reasons.{number}
 use Rattle.refusals.specs.Search.{Lowest}
 
 -- A check has the number of its refusal, and says at which place it applies.
@@ -24,7 +25,7 @@ Clear c = (p : ℕ) → c.At p → ⊥
 -- a call is refused: by the first of its checks that applies
 abbrev pub Refuses : List {1} Check → Refusal → Type 0
 Refuses [] r = ⊥
-Refuses (c ∷ cs) r = ((r.number ≡ c.number) × c.At r.place) ⊎ (Clear c × Refuses cs r)
+Refuses (c ∷ cs) r = ((number r ≡ c.number) × c.At r.place) ⊎ (Clear c × Refuses cs r)
 
 -- a call is not refused: none of its checks applies
 abbrev pub Passes : List {1} Check → Type 0

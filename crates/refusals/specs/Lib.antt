@@ -3,3 +3,5 @@
 pub mod Search
 -- the checks of a call, in their order
 pub mod Checks
+-- the numbers of the reasons
+pub mod Reasons

@@ -1,9 +1,7 @@
 -- What the answer of a search says, and of a test. The lowest number of which something holds: document 01 gives the lowest place of each fault, and
 -- this is what "lowest" means.
 -- Assumes nothing.
-use Rattle.std.specs.Prelude.{Bool, true, false, ℕ, ◌≤◌, ◌<◌}
-use Rattle.refusals.specs.declared.Found.{Found}
-use Rattle.refusals.specs.declared.Found.TheVariants.{At, Nowhere}
+use Rattle.std.specs.Prelude.{Bool, true, false, ℕ, ◌≤◌, ◌<◌, Option, Some, None}
 
 -- k is the lowest number from 1 to m of which P holds
 pub record Lowest (P : ℕ → Type 0) (m k : ℕ) : Type 0 where
@@ -17,9 +15,9 @@ abbrev pub Never : (ℕ → Type 0) → ℕ → Type 0
 Never P m = (k : ℕ) → 1 ≤ k → k ≤ m → P k → ⊥
 
 -- what a search from 1 to m found
-abbrev pub Finds : (ℕ → Type 0) → ℕ → Found → Type 0
-Finds P m (At k) = Lowest P m k
-Finds P m Nowhere = Never P m
+abbrev pub Finds : (ℕ → Type 0) → ℕ → Option ℕ → Type 0
+Finds P m (Some k) = Lowest P m k
+Finds P m None = Never P m
 
 -- what a yes or no says
 abbrev pub Tells : Type 0 → Bool → Type 0

@@ -1,20 +1,7 @@
--- `cells::state_above` finds the lowest cell above 9999. Nothing is found while a loop goes on: no cell up to the present one is above, in the
--- outer loop the t · c cells of the rows passed, in the inner one j cells more. The measures are the rows, and the cells of the row, that are left.
-use mathlib.Core.Path.{◌≡◌}
-use Prim.Native.Nat.{◌+◌, ◌-◌, ◌*◌, ◌≤◌}
-use Rattle.refusals.specs.declared.Found.TheVariants.{Nowhere}
+-- `cells::state_above` finds the lowest cell above 9999: no cell passed is.
 use Rattle.refusals.specs.Search.{Never}
 use Rattle.cells.specs.Above.{AboveAt}
 use Rattle.cells.proofs.state_above.Given as goal
 
-abbrev pub invariant-loop-j : goal.invariant-loop-j
-invariant-loop-j l = (l.j ≤ l.c) × (l.found ≡ Nowhere) × Never (AboveAt l.matrix) (l.t * l.c + l.j)
-
-abbrev pub decreases-loop-j : goal.decreases-loop-j
-decreases-loop-j l = l.c - l.j
-
-abbrev pub invariant-search : goal.invariant-search
-invariant-search l = (l.t ≤ l.n) × (l.found ≡ Nowhere) × Never (AboveAt l.matrix) (l.t * l.c)
-
-abbrev pub decreases-search : goal.decreases-search
-decreases-search l = l.n - l.t
+abbrev pub invariant-loop-i : goal.invariant-loop-i
+invariant-loop-i l = Never (AboveAt l.matrix) l.i
