@@ -1,6 +1,6 @@
 -- `path_of`: the list has room for each interior node that the climb passes; a turn lists one more, and the walk ends at the root.
 use native.Mathlib.Omega.{arith}
-use mathlib.Core.Path.{◌≡◌, ◌∙◌, sym}
+use mathlib.Core.Path.{◌≡◌, sym}
 use Prim.Native.Nat.{ℕ, ◌<◌}
 use lib.ListN.{length, replicate, length-replicate}
 use Rattle.parsimony.proofs.Tables.Descendants.{entry_of}
