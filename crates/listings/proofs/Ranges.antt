@@ -46,16 +46,10 @@ more_end lows highs k h = rw (drop_of_length-le lows h)
 
 -- what is still to be written after k ranges, from `next` on, gives what all of it gives, and has its room
 pub record Writing (start : List ℕ) (at : ℕ) (lows highs out : List ℕ) (next k : ℕ) : Type 0 where
-  pub some : 1 ≤ k
-  pub most : k ≤ length lows
   pub size : length out ≡ length start
   pub list : sets start at (more_ranges (drop 1 lows) (drop 1 highs)) ≡ sets out next (more_ranges (drop k lows) (drop k highs))
   pub end : at + length (more_ranges (drop 1 lows) (drop 1 highs)) ≡ next + length (more_ranges (drop k lows) (drop k highs))
   pub room : next + length (more_ranges (drop k lows) (drop k highs)) ≤ length out
-
-pub begun : (out : List ℕ) (at : ℕ) (lows highs : List ℕ) → 0 < length lows
-    → at + length (more_ranges (drop 1 lows) (drop 1 highs)) ≤ length out → Writing out at lows highs out at 1
-begun out at lows highs h r = record { some = omega arith; most = omega arith; size = refl; list = refl; end = refl; room = r }
 
 module _ (start : List ℕ) (at : ℕ) (lows highs : List ℕ) (same : length lows ≡ length highs) (out : List ℕ) (next k : ℕ)
     (w : Writing start at lows highs out next k) where
@@ -79,8 +73,6 @@ module _ (start : List ℕ) (at : ℕ) (lows highs : List ℕ) (same : length lo
       let long = length-append piece more in
       let step = ap length (more-step lows highs k h same) in
       record {
-        some = omega arith;
-        most = omega arith;
         size = written-size both ∙ w.size;
         list = w.list ∙ ap (sets out next) (more-step lows highs k h same) ∙ still out out' next next' piece more both;
         end = omega (arith, w.end, both.next_is);

@@ -16,9 +16,9 @@ fn put_range(out: &mut [u8], at: usize, low: u16, high: u16) -> usize
     requires { at + length (text.range low high) ≤ length out.old }
     ensures { Written out.old out.new at result (text.range low high) }
 {
-    let hyphen = put_number(out, at, low as u32);
-    let second = put_byte(out, hyphen, 45);
-    put_number(out, second, high as u32)
+    let hyphen = put_number(out, at, u32::from(low));
+    let second = put_byte(out, hyphen, b'-');
+    put_number(out, second, u32::from(high))
 }
 
 // Writes the ranges after the first, each after a comma.
@@ -29,11 +29,9 @@ fn put_more_ranges(out: &mut [u8], at: usize, lows: &[u16], highs: &[u16]) -> us
         (text.more_ranges (drop 1 lows.now) (drop 1 highs.now)) }
 {
     let mut next = at;
-    let mut k: usize = 1;
-    while k < lows.len() {
-        let first = put_byte(out, next, 44);
+    for k in 1..lows.len() {
+        let first = put_byte(out, next, b',');
         next = put_range(out, first, lows[k], highs[k]);
-        k += 1;
     }
     next
 }
@@ -49,7 +47,7 @@ pub fn put_ranges(out: &mut [u8], at: usize, key: &[u8], lows: &[u16], highs: &[
     let value = put_bytes(out, at, key);
     let next = put_range(out, value, lows[0], highs[0]);
     let end = put_more_ranges(out, next, lows, highs);
-    put_byte(out, end, 10)
+    put_byte(out, end, b'\n')
 }
 
 // Writes a line with numbers.
@@ -60,5 +58,5 @@ pub fn put_list(out: &mut [u8], at: usize, key: &[u8], values: &[u16]) -> usize
 {
     let value = put_bytes(out, at, key);
     let end = printing::put_numbers(out, value, values);
-    put_byte(out, end, 10)
+    put_byte(out, end, b'\n')
 }

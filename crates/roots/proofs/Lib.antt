@@ -1,4 +1,3 @@
--- How the searches come by their answers.
---     Rooting     the search for the root, and for its descendant
+-- How far the search for the root has come.
 -- Assumes nothing.
 mod Rooting

@@ -1,11 +1,11 @@
 -- The root of a tree table, a definition for each sentence of document 01's refusal 3; and what the searches for the root and for its descendant ask
 -- and find.
 -- Assumes nothing.
-use Rattle.std.specs.Prelude.{◌≡◌, ◌⊎◌, List, ℕ, ◌≤◌, ◌<◌, length}
+use Rattle.std.specs.Prelude.{◌≡◌, ◌⊎◌, List, ℕ, ◌≤◌, ◌<◌, length, Result, Ok, Err}
 use Rattle.parsimony.specs.Table.{ancestor}
 use Rattle.refusals.specs.Search.{Lowest, Never}
-use Rattle.roots.specs.declared.Root.{Root}
-use Rattle.roots.specs.declared.Root.TheVariants.{At, Stray, Missing}
+use Rattle.roots.specs.declared.NoRoot.{NoRoot}
+use Rattle.roots.specs.declared.NoRoot.TheVariants.{Stray, Missing}
 
 module _ (n : ℕ) (tree : List ℕ) where
   -- ρ is the root: a node and a taxon, with the only 0 entry
@@ -25,10 +25,10 @@ module _ (n : ℕ) (tree : List ℕ) where
   NoZero = Never (λ k. ancestor tree k ≡ 0) (length tree)
 
 -- what the search for the root found
-abbrev pub FindsRoot : ℕ → List ℕ → Root → Type 0
-FindsRoot n tree (At ρ) = IsRoot n tree ρ
-FindsRoot n tree (Stray k) = Lowest (StrayZero n tree) (length tree) k
-FindsRoot n tree Missing = NoZero n tree
+abbrev pub FindsRoot : ℕ → List ℕ → Result ℕ NoRoot → Type 0
+FindsRoot n tree (Ok ρ) = IsRoot n tree ρ
+FindsRoot n tree (Err (Stray k)) = Lowest (StrayZero n tree) (length tree) k
+FindsRoot n tree (Err Missing) = NoZero n tree
 
 -- some node has this ancestor
 abbrev pub Named : ℕ → List ℕ → Type 0

@@ -5,38 +5,27 @@ ghost use Rattle.std.specs.Prelude.{◌≡◌, ℕ, ◌≤◌, length};
 ghost use Rattle.parsimony.specs.Table.{ancestor};
 ghost use Rattle.roots.specs.Roots.{FindsRoot, Named};
 
-use refusals::wide;
-
-// Where the root is: at a taxon, or the lowest 0 entry that is interior or follows another 0, or nowhere.
-#[derive(Clone, Copy)]
-pub enum Root {
-    At(usize),
+// Why a table has no root: the lowest 0 entry that is interior or follows another 0, or there is no 0 entry.
+#[derive(Clone, Copy, Debug, PartialEq, Eq)]
+pub enum NoRoot {
     Stray(usize),
     Missing,
 }
 
-// The root of a table.
-pub fn find_root(n: usize, tree: &[u16]) -> Root
+// The root of a table, or why it has none.
+pub fn find_root(n: usize, tree: &[u16]) -> Result<usize, NoRoot>
     ensures { FindsRoot n tree.now result }
 {
-    let mut root: usize = 0;
-    let mut k: usize = 0;
-    while k < tree.len() {
-        if tree[k] == 0 {
-            if root != 0 {
-                return Root::Stray(k + 1);
+    let mut root = None;
+    for (k, entry) in tree.iter().enumerate() {
+        if *entry == 0 {
+            if root.is_some() || n <= k {
+                return Err(NoRoot::Stray(k + 1));
             }
-            if n <= k {
-                return Root::Stray(k + 1);
-            }
-            root = k + 1;
+            root = Some(k + 1);
         }
-        k += 1;
     }
-    if root == 0 {
-        return Root::Missing;
-    }
-    Root::At(root)
+    root.ok_or(NoRoot::Missing)
 }
 
 // The lowest descendant of the root, which has one.
@@ -44,9 +33,6 @@ pub fn descendant_of(root: usize, tree: &[u16]) -> usize
     requires { Named root tree.now }
     ensures { (1 ≤ result) × (result ≤ length tree.now) × (ancestor tree.now result ≡ root) }
 {
-    let mut k: usize = 0;
-    while wide(tree[k]) != root {
-        k += 1;
-    }
-    k + 1
+    let first = tree.iter().position(|entry| usize::from(*entry) == root);
+    first.unwrap() + 1
 }
