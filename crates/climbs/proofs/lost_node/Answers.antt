@@ -1,6 +1,6 @@
--- `lost_node` finds the lowest node that never comes to the root, with marks of its own.
-use Rattle.climbs.proofs.Rounds.{unmarked}
+-- `lost_node`: no mark is given at first; where a climb leads out, one node more is passed; where it does not, the node is the lowest lost one.
+use Rattle.climbs.proofs.Rounds.{unmarked, reach-none, reach-more, climbed_yes, climbed_no, lost_here}
 use Rattle.climbs.proofs.lost_node.Goals as goal
 
-pub first_lost-requires : goal.first_lost-requires
-first_lost-requires c = (c.requires, unmarked _ c.args.tree.now)
+pub loop-k-init : goal.loop-k-init
+loop-k-init c = (reach-none _ c.args.tree.now, unmarked _ c.args.tree.now)
