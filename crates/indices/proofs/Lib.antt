@@ -1,5 +1,4 @@
 -- m and g over one taxon more, m beside g, and the cases of CI and RI.
 -- Assumes nothing.
 mod Taxa
-mod Fractions
 pub mod Most

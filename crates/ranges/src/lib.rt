@@ -33,18 +33,11 @@ pub fn join(a: Range, b: Range) -> Range
     requires { IsRange a × IsRange b }
     ensures { Joined (range_of a ∷ range_of b ∷ []) result }
 {
-    let from = larger(a.low, b.low);
-    let to = smaller(a.high, b.high);
-    if from <= to {
-        Range {
-            low: from,
-            high: to,
-        }
-    } else {
-        Range {
-            low: to,
-            high: from,
-        }
+    let from = a.low.max(b.low);
+    let to = a.high.min(b.high);
+    Range {
+        low: from.min(to),
+        high: from.max(to),
     }
 }
 
@@ -53,9 +46,7 @@ pub fn cost(a: Range, b: Range) -> u16
     requires { IsRange a × IsRange b }
     ensures { result ≡ ordered.cost (range_of a ∷ range_of b ∷ []) }
 {
-    let from = larger(a.low, b.low);
-    let to = smaller(a.high, b.high);
-    if from <= to { 0 } else { from - to }
+    a.low.max(b.low).saturating_sub(a.high.min(b.high))
 }
 
 // The state of a range nearest a state.
@@ -63,7 +54,7 @@ pub fn nearest(a: Range, state: u16) -> u16
     requires { IsRange a }
     ensures { pos result ≡ ordered.nearest (range_of a) (pos state) }
 {
-    larger(a.low, smaller(state, a.high))
+    state.clamp(a.low, a.high)
 }
 
 // The final range of a node: the join of its two descendants' ranges and the range from above, so the third and fourth of their six ends.
@@ -73,8 +64,8 @@ pub fn final_range(a: Range, b: Range, above: Range) -> Range
     ensures { Joined (range_of a ∷ range_of b ∷ range_of above ∷ []) result }
 {
     let outer = Range {
-        low: smaller(above.low, b.low),
-        high: larger(above.high, b.high),
+        low: above.low.min(b.low),
+        high: above.high.max(b.high),
     };
     let inner = join(b, above);
     join(join(a, outer), inner)
