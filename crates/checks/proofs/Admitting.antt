@@ -6,7 +6,7 @@ use mathlib.Core.List.{List, ◌++◌}
 use Prim.Native.Nat.{ℕ, ◌+◌, ◌-◌, ◌*◌, ◌≤◌, ◌<◌}
 use native.Mathlib.Omega.{arith}
 use native.Mathlib.Nat.{mul-le-mul_right}
-use Rattle.std.specs.Prelude.{Option, Some, None, Result, Ok, Err}
+use Rattle.std.specs.Prelude.{Option, Some, None}
 use Rattle.parsimony.specs.Table as table
 use Rattle.refusals.specs.declared.Reason.{Reason}
 use Rattle.refusals.specs.declared.Reason.TheVariants.{Length, State, Character}
@@ -18,7 +18,7 @@ use Rattle.cells.specs.Above.{AboveAt, AboveIn}
 use Rattle.trees.specs.Answers.{tree_faults}
 use Rattle.trees.proofs.Unique.{accepted-passes}
 use Rattle.limits.specs.Limits.{Told}
-use Rattle.checks.specs.Calls.{NoCharacter, character_cell, cell_checks, all_checks, AdmitsCells, AdmitsAll, AdmitsCharacter, AdmitsMatrix}
+use Rattle.checks.specs.Calls.{NoCharacter, character_cell, cell_checks, all_checks}
 
 abbrev pub refusal : Reason → ℕ → Refusal
 refusal reason place = record { reason = reason; place = place }

@@ -1,6 +1,6 @@
 -- The checks of the calls that take a tree and a matrix, as lists in document 01's order, and what is told when some of them are made.
 -- Assumes nothing.
-use Rattle.std.specs.Prelude.{◌≡◌, ◌⊎◌, List, [], ◌∷◌, ◌++◌, ℕ, ◌-◌, ◌*◌, ◌≤◌, ◌<◌, length, Option, Some, None, Result, Ok, Err}
+use Rattle.std.specs.Prelude.{◌≡◌, ◌⊎◌, List, [], ◌∷◌, ◌++◌, ℕ, ◌-◌, ◌*◌, ◌≤◌, ◌<◌, length, Option, None, Result, Ok, Err}
 use Rattle.parsimony.specs.Table as table
 use Rattle.parsimony.specs.Matrix.{cell_number}
 use Rattle.refusals.specs.declared.Refusal.{Refusal}

@@ -15,9 +15,5 @@ pub fn outside(n: usize, c: usize) -> bool
 pub fn lend(number: u32, has: usize, asked: usize, others: Option<u32>) -> Option<u32>
     ensures { LentTo number has asked others result }
 {
-    if has != asked {
-        Some(number)
-    } else {
-        others
-    }
+    if has != asked { Some(number) } else { others }
 }
