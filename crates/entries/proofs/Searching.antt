@@ -8,13 +8,13 @@ use Prim.Native.Nat.{ℕ, suc, ◌+◌, ◌-◌, ◌*◌, ◌≤◌, ◌<◌}
 use native.Mathlib.Nat.{mul-le-mul_right}
 use native.Mathlib.Decide.{ℕ_discrete}
 use native.Mathlib.Omega.{arith, by_contra}
-use lib.ListN.{length, get_or, set, take, drop, length-set}
+use lib.ListN.{length, get_or, set, take, drop, replicate, length-set, length-replicate}
 use Rattle.parsimony.specs.Table.{ancestor}
 use Rattle.parsimony.specs.Character.{at_node}
+use Rattle.parsimony.proofs.Sums.{zeros}
 use Rattle.parsimony.proofs.Characters.{entry-written, entry_other}
 use Rattle.refusals.specs.Search.{Lowest, Never, Finds, Tells}
-use Rattle.refusals.specs.declared.Found.{Found}
-use Rattle.refusals.specs.declared.Found.TheVariants.{At, Nowhere}
+use Rattle.std.specs.Prelude.{Option, Some, None}
 use Rattle.tables.specs.Tables.{stretch}
 use Rattle.tables.proofs.Stretches.{stretch_in, stretch-long}
 use Rattle.entries.specs.Entries.{Bad, BadAt, BadIn, OneCharacter, AllCharacters, FindsEntry, Marks, Marked, Beside, BadMarked, Besides}
@@ -114,19 +114,19 @@ module _ (n c : ℕ) (lows highs lengths : List ℕ) (S : AllCharacters n c lows
             length_long = part-long lengths S.long.length_long;
           }
 
-      found_in : (r : Found) → Finds (BadAt n (part lows) (part highs) (part lengths)) (2 * n - 2) r
+      found_in : (r : Option ℕ) → Finds (BadAt n (part lows) (part highs) (part lengths)) (2 * n - 2) r
           → Finds (BadIn n lows highs lengths (k + 1)) (2 * n - 2) r
       found_in r h =
           subst (λ x. Finds (BadAt n x (stretch (n - 2) highs (k + 1)) (stretch (n - 2) lengths (k + 1))) (2 * n - 2) r) (part_is lows)
           (subst (λ x. Finds (BadAt n (part lows) x (stretch (n - 2) lengths (k + 1))) (2 * n - 2) r) (part_is highs)
           (subst (λ x. Finds (BadAt n (part lows) (part highs) x) (2 * n - 2) r) (part_is lengths) h))
 
-      module _ (C : CleanTo k) (r : Found) (F : Finds (BadAt n (part lows) (part highs) (part lengths)) (2 * n - 2) r) where
-        pub entry_found : (v : ℕ) → r ≡ At v → FindsEntry n c lows highs lengths (At v)
+      module _ (C : CleanTo k) (r : Option ℕ) (F : Finds (BadAt n (part lows) (part highs) (part lengths)) (2 * n - 2) r) where
+        pub entry_found : (v : ℕ) → r ≡ Some v → FindsEntry n c lows highs lengths (Some v)
         entry_found v d =
             (k + 1, (omega arith, omega arith), subst (Finds (BadIn n lows highs lengths (k + 1)) (2 * n - 2)) d (found_in r F), λ i p m. C i p (omega arith))
 
-        pub clean_more : r ≡ Nowhere → CleanTo (k + 1)
+        pub clean_more : r ≡ None → CleanTo (k + 1)
         clean_more d j p m = go (ℕ_discrete j (k + 1))
           where
             go : Dec (j ≡ k + 1) → Never (BadIn n lows highs lengths j) (2 * n - 2)
@@ -138,9 +138,10 @@ module _ (n c : ℕ) (lows highs lengths : List ℕ) (S : AllCharacters n c lows
 
 -- ---- marks
 
-module _ (n count : ℕ) (path marks₀ : List ℕ) (S : Marks n count path marks₀) where
-  pub marked_none : Marked n 0 path marks₀
-  marked_none = record { long = S.long; on = λ i l. absurd (omega arith); off = λ v lo h. S.blank (v - suc n) }
+pub marked_none : (n : ℕ) (path : List ℕ) → Marked n 0 path (replicate 254 0)
+marked_none n path = record { long = length-replicate {A = ℕ} 254 0; on = λ i l. absurd (omega arith); off = λ v lo h. zeros 254 (v - suc n) }
+
+module _ (n count : ℕ) (path : List ℕ) (S : Marks n count path) where
 
   pub marked_more : (i : ℕ) (marks : List ℕ) → i < count → Marked n i path marks → Marked n (i + 1) path (set marks (get_or path i 0 - n - 1) 1)
   marked_more i marks l D =

@@ -1,10 +1,8 @@
 -- Which kept entries no pass leaves: refusal 10, in one character, in all, and beside the path of a correction.
 -- Assumes nothing.
-use Rattle.std.specs.Prelude.{◌≡◌, ◌≢◌, ◌⊎◌, List, ℕ, ◌-◌, ◌*◌, ◌≤◌, ◌<◌, length, get_or}
+use Rattle.std.specs.Prelude.{◌≡◌, ◌≢◌, ◌⊎◌, List, ℕ, ◌-◌, ◌*◌, ◌≤◌, ◌<◌, length, get_or, Option, Some, None}
 use Rattle.parsimony.specs.Table.{ancestor, below}
 use Rattle.parsimony.specs.Character.{at_node}
-use Rattle.refusals.specs.declared.Found.{Found}
-use Rattle.refusals.specs.declared.Found.TheVariants.{At, Nowhere}
 use Rattle.refusals.specs.Search.{Lowest, Never}
 use Rattle.refusals.specs.Checks.{Check, lowest}
 use Rattle.tables.specs.Tables.{stretch, TableLong}
@@ -61,18 +59,16 @@ pub record AllCharacters (n c : ℕ) (lows highs lengths : List ℕ) : Type 0 wh
   pub long : TableLong n c lows highs lengths
 
 -- what the search through all found
-abbrev pub FindsEntry : (n c : ℕ) (lows highs lengths : List ℕ) → Found → Type 0
-FindsEntry n c lows highs lengths (At p) = (all_entries n c lows highs lengths).At p
-FindsEntry n c lows highs lengths Nowhere = (j : ℕ) → 1 ≤ j → j ≤ c → Never (BadIn n lows highs lengths j) (2 * n - 2)
+abbrev pub FindsEntry : (n c : ℕ) (lows highs lengths : List ℕ) → Option ℕ → Type 0
+FindsEntry n c lows highs lengths (Some p) = (all_entries n c lows highs lengths).At p
+FindsEntry n c lows highs lengths None = (j : ℕ) → 1 ≤ j → j ≤ c → Never (BadIn n lows highs lengths j) (2 * n - 2)
 
 -- ---- marks
 
--- the path has interior nodes, and no mark is set
-pub record Marks (n count : ℕ) (path marks : List ℕ) : Type 0 where
+-- the path has interior nodes
+pub record Marks (n count : ℕ) (path : List ℕ) : Type 0 where
   pub few : count ≤ 254
   pub inner : (i : ℕ) → i < count → (n < get_or path i 0) × (get_or path i 0 - n - 1 < 254)
-  pub long : length marks ≡ 254
-  pub blank : (k : ℕ) → get_or marks k 0 ≡ 0
 
 -- a node is marked exactly if it is one of the first `count` of the path
 pub record Marked (n count : ℕ) (path marks : List ℕ) : Type 0 where

@@ -188,10 +188,10 @@ module _ (n : ℕ) (tree : List ℕ) where
     pub long : length path ≡ length path₀
 
 -- the tree of a table whose paths are asked for
-abbrev pub tree_of : {n k : ℕ} {tree path : List ℕ} → Pathable n tree k path → Tree
-tree_of {n} {k} {tree} {path} P = record { n = n; tree = tree; ρ = P.ρ; δ = P.δ; is_tree = P.accepted.is_tree }
+abbrev pub tree_of : {n k : ℕ} {tree : List ℕ} → Pathable n tree k → Tree
+tree_of {n} {k} {tree} P = record { n = n; tree = tree; ρ = P.ρ; δ = P.δ; is_tree = P.accepted.is_tree }
 
-module _ (n : ℕ) (tree : List ℕ) (k : ℕ) (path₀ : List ℕ) (P : Pathable n tree k path₀) where
+module _ (n : ℕ) (tree : List ℕ) (k : ℕ) (path₀ : List ℕ) (long : length path₀ ≡ 254) (P : Pathable n tree k) where
   open P.accepted.is_tree use {more, within}
 
   pub walk_starts : (at : ℕ) → at ≡ ancestor tree k → WalkedTo n tree k path₀ 0 at path₀
@@ -224,7 +224,7 @@ module _ (n : ℕ) (tree : List ℕ) (k : ℕ) (path₀ : List ℕ) (P : Pathabl
             ap length open_up,
             path-short (tree_of P) k,
             W.long,
-            P.long,
+            long,
             P.sized.nodes,
             P.sized.least,
             P.sized.most,

@@ -18,15 +18,14 @@ path_by n tree (suc s) k =
 abbrev pub path_of : ℕ → List ℕ → ℕ → List ℕ
 path_of n tree k = path_by n tree (length tree) k
 
--- the table is accepted, k is a node, and the list has room for the most interior nodes there can be
-pub record Pathable (n : ℕ) (tree : List ℕ) (k : ℕ) (path : List ℕ) : Type 0 where
+-- the table is accepted, and k is a node
+pub record Pathable (n : ℕ) (tree : List ℕ) (k : ℕ) : Type 0 where
   pub sized : Sized n tree
   pub ρ : ℕ
   pub δ : ℕ
   pub accepted : Accepted n tree ρ δ
   pub some : 1 ≤ k
   pub most : k ≤ length tree
-  pub long : length path ≡ 254
 
 -- the list begins with the path from k to the root, and r is its length: the number of interior nodes between them
 pub record IsPath (n : ℕ) (tree : List ℕ) (k : ℕ) (before after : List ℕ) (r : ℕ) : Type 0 where

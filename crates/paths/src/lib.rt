@@ -1,21 +1,28 @@
 // The path from a node to the root: the interior nodes between them.
 #![tactic(auto)]
 
+ghost use Rattle.std.specs.Prelude.{replicate};
 ghost use Rattle.paths.specs.Paths.{Pathable, IsPath};
 
-use refusals::wide;
+// So many interior nodes, from a node's ancestor up.
+#[derive(Clone, Copy)]
+pub struct Path {
+    pub nodes: [u16; 254],
+    pub count: usize,
+}
 
-// Lists the interior nodes between a node and the root, from the node's ancestor up, and answers how many there are.
-pub fn path(n: usize, tree: &[u16], node: usize, path: &mut [u16; 254]) -> usize
-    requires { Pathable n tree.now node path.old }
-    ensures { IsPath n tree.now node path.old path.new result }
+// The interior nodes between a node and the root, from the node's ancestor up.
+pub fn path_of(n: usize, tree: &[u16], node: usize) -> Path
+    requires { Pathable n tree.now node }
+    ensures { IsPath n tree.now node (replicate 254 0) result.nodes result.count }
 {
-    let mut count: usize = 0;
-    let mut at = wide(tree[node - 1]);
-    while n < at {
-        path[count] = at as u16;
+    let mut nodes = [0; 254];
+    let mut count = 0;
+    let mut at = tree[node - 1];
+    'climb: while n < usize::from(at) {
+        nodes[count] = at;
         count += 1;
-        at = wide(tree[at - 1]);
+        at = tree[usize::from(at) - 1];
     }
-    count
+    Path { nodes, count }
 }

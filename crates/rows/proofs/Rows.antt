@@ -1,6 +1,6 @@
 -- A row, settled one character after the other.
 -- Assumes nothing.
-use mathlib.Core.Path.{◌≡◌, refl, sym, ◌∙◌, ap, ap₂, subst}
+use mathlib.Core.Path.{◌≡◌, sym, ◌∙◌, ap, ap₂, subst}
 use mathlib.Core.Logic.{◌≢◌, ◌⊎◌, inl, inr}
 use mathlib.Core.List.{List, [], ◌∷◌}
 use Prim.Native.Nat.{ℕ, ◌+◌, ◌-◌, ◌*◌, ◌≤◌, ◌<◌}
@@ -27,25 +27,8 @@ row_in v w p q f =
     let h : (v - 1) * w ≤ 509 * w = mul-le-mul_right w (omega arith) in
     omega arith
 
--- once all w characters are settled, the row is
-pub all_settled : (node left right w to : ℕ) (lows highs lengths lows' highs' lengths' : List ℕ) → to ≡ w
-    → SettledRow node left right w to lows highs lengths lows' highs' lengths' → SettledRow node left right w w lows highs lengths lows' highs'
-    lengths'
-all_settled node left right w to lows highs lengths lows' highs' lengths' e h =
-    subst (λ t. SettledRow node left right w t lows highs lengths lows' highs' lengths') e h
-
-module _ (node left right w : ℕ) (lows₀ highs₀ lengths₀ : List ℕ) (S : Settleable node left right w lows₀ highs₀ lengths₀) where
-  pub none-settled : SettledRow node left right w 0 lows₀ highs₀ lengths₀ lows₀ highs₀ lengths₀
-  none-settled =
-      record {
-        room = S.room;
-        fits = λ i p q. absurd (omega arith);
-        joined = λ i p q. absurd (omega arith);
-        summed = λ i p q. absurd (omega arith);
-        kept = λ i v p q r h. (refl, refl, refl);
-      }
-
-  module _ (lows highs lengths : List ℕ) (k : ℕ) (l : k < w) (R : SettledRow node left right w k lows₀ highs₀ lengths₀ lows highs lengths) where
+module _ {node left right w : ℕ} {lows₀ highs₀ lengths₀ : List ℕ} (S : Settleable node left right w lows₀ highs₀ lengths₀) where
+  module _ {lows highs lengths : List ℕ} {k : ℕ} (l : k < w) (R : SettledRow node left right w k lows₀ highs₀ lengths₀ lows highs lengths) where
     -- a descendant's entry is what it was
     entry : (v : ℕ) → 1 ≤ v → v ≢ node
         → (get_or lows ((v - 1) * w + k) 0 ≡ state_of lows₀ w (k + 1) v) × (get_or highs ((v - 1) * w + k) 0 ≡ state_of highs₀ w (k + 1) v)
@@ -71,7 +54,7 @@ module _ (node left right w : ℕ) (lows₀ highs₀ lengths₀ : List ℕ) (S :
           small = omega (arith, S.small (k + 1) (omega arith) (omega arith));
         }
 
-    module _ (lows' highs' lengths' : List ℕ)
+    module _ {lows' highs' lengths' : List ℕ}
         (Q : SettledAt ((node - 1) * w + k) ((left - 1) * w + k) ((right - 1) * w + k) lows highs lengths lows' highs' lengths') where
       here : (node - 1) * w + k < 4080
       here = place_in node w k S.some.0 S.most.0 S.few l

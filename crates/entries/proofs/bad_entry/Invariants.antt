@@ -5,7 +5,4 @@ use Rattle.entries.specs.Entries.{BadIn}
 use Rattle.entries.proofs.bad_entry.Given as goal
 
 abbrev pub invariant-loop-j : goal.invariant-loop-j
-invariant-loop-j l = (l.j ≤ l.c) × ((i : ℕ) → 1 ≤ i → i ≤ l.j → Never (BadIn l.n l.lows l.highs l.lengths i) (2 * l.n - 2))
-
-abbrev pub decreases-loop-j : goal.decreases-loop-j
-decreases-loop-j l = l.c - l.j
+invariant-loop-j l = (i : ℕ) → 1 ≤ i → i ≤ l.j → Never (BadIn l.n l.lows l.highs l.lengths i) (2 * l.n - 2)

@@ -1,11 +1,8 @@
 -- `bad_node` looks at one entry after the other. The invariant: none so far is bad.
-use Prim.Native.Nat.{◌+◌, ◌-◌, ◌≤◌}
+use Prim.Native.Nat.{◌+◌}
 use Rattle.refusals.specs.Search.{Never}
 use Rattle.entries.specs.Entries.{BadAt}
 use Rattle.entries.proofs.bad_node.Given as goal
 
 abbrev pub invariant-loop-k : goal.invariant-loop-k
-invariant-loop-k l = (l.k ≤ l.n - 2) × Never (BadAt l.n l.lows l.highs l.lengths) (l.n + l.k)
-
-abbrev pub decreases-loop-k : goal.decreases-loop-k
-decreases-loop-k l = l.n - l.k
+invariant-loop-k l = Never (BadAt l.n l.lows l.highs l.lengths) (l.n + l.k)

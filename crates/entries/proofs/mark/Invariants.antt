@@ -1,10 +1,6 @@
--- `mark` marks one node after the other. The invariant: the first i of them are marked, and no other.
-use Prim.Native.Nat.{◌-◌, ◌≤◌}
+-- `mark` marks one node after the other. The invariant: those passed are marked, and no other.
 use Rattle.entries.specs.Entries.{Marked}
 use Rattle.entries.proofs.mark.Given as goal
 
-abbrev pub invariant-loop-i : goal.invariant-loop-i
-invariant-loop-i l = (l.i ≤ l.count) × Marked l.n l.i l.path l.marks
-
-abbrev pub decreases-loop-i : goal.decreases-loop-i
-decreases-loop-i l = l.count - l.i
+abbrev pub invariant-loop-node : goal.invariant-loop-node
+invariant-loop-node l = Marked l.n l.node-index l.path l.marks
