@@ -21,7 +21,6 @@ use Rattle.descents.proofs.Passing as passing
 module _ (n c j : ℕ) (tree matrix order lows highs : List ℕ) where
   -- the states after i turns
   pub record ChosenTo (i : ℕ) (states : List ℕ) : Type 0 where
-    pub turns : i ≤ n - 2
     pub long : length states ≡ n - 2
     pub chosen : (k : ℕ) → k < i
         → pos (at_node n states (get_or order k 0)) ≡ nearest (ranges n (state_of matrix c j) lows highs (get_or order k 0))
@@ -38,7 +37,7 @@ module _ (n c j ρ δ : ℕ) (tree matrix order lows highs : List ℕ) (D : Desc
   ChosenBy = ChosenTo n c j tree matrix order lows highs
 
   pub chosen_none : (states : List ℕ) → length states ≡ n - 2 → ChosenBy 0 states
-  chosen_none states e = record { turns = omega arith; long = e; chosen = λ k l. absurd (omega arith) }
+  chosen_none states e = record { long = e; chosen = λ k l. absurd (omega arith) }
 
   pub chosen-all : (i : ℕ) (states : List ℕ) → ChosenBy i states → n - 2 ≤ i → Chooses n c j ρ tree matrix lows highs states
   chosen-all i states P h =
@@ -89,7 +88,6 @@ module _ (n c j ρ δ : ℕ) (tree matrix order lows highs : List ℕ) (D : Desc
         → pos x ≡ nearest (span (get_or lows (v - n - 1) 0) (get_or highs (v - n - 1) 0)) (pos from) → ChosenBy (i + 1) (set states (v - n - 1) x)
     chosen_next from x A e =
         record {
-          turns = omega arith;
           long = length-set states (v - n - 1) x ∙ P.long;
           chosen = λ k m. chosen k (ℕ_discrete k i) m;
         }

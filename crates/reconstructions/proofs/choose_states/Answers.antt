@@ -9,14 +9,14 @@ nearest-requires c =
     c.args.order.now c.args.lows.now
     c.args.highs.now c.requires.0 c.loop-i.i
     c.loop-i.states c.loop-i.invariant
-    c.loop-i-test.true _ c.wide-node.ensures
+    c.loop-i-test.true _ c.from-node.ensures
 
 pub loop-i-preserved : goal.loop-i-preserved
 loop-i-preserved c =
     chosen_at _ _ _ _ _ c.args.tree.now c.args.matrix.now c.args.order.now
     c.args.lows.now c.args.highs.now c.requires.0 c.loop-i.i
     c.loop-i.states c.loop-i.invariant c.loop-i-test.true _
-    c.wide-node.ensures _ _ c.state_above-from.ensures c.nearest.ensures
+    c.from-node.ensures _ _ c.state_above-from.ensures c.nearest.ensures
 
 pub returns : goal.returns
 returns c =
