@@ -100,20 +100,6 @@ module _ (n c j ρ δ : ℕ) (tree matrix order lows highs : List ℕ) (D : Desc
   abbrev Passed : (i : ℕ) (above : List Range) (lows' highs' : List ℕ) → Type 0
   Passed = PassedTo n c j ρ δ tree matrix order lows highs
 
-  pub passed_none : (above : List Range) (lows' highs' : List ℕ) → length above ≡ 254 → length lows' ≡ n - 2
-      → length highs' ≡ n - 2 → Passed 0 above lows' highs'
-  passed_none above lows' highs' a p q =
-      record {
-        above_long = a;
-        low_long = p;
-        high_long = q;
-        top = λ l. absurd (omega arith);
-        rest = λ k l m. absurd (omega arith);
-        known = λ k l. absurd (omega arith);
-        fits = λ k l. absurd (omega arith);
-        finals = λ k l. absurd (omega arith);
-      }
-
   pub passed_all : (i : ℕ) (above : List Range) (lows' highs' : List ℕ) → Passed i above lows' highs' → n - 2 ≤ i
       → Finals n c j ρ δ tree matrix lows highs lows' highs'
   passed_all i above lows' highs' P h =

@@ -36,9 +36,6 @@ module _ (n c j ρ δ : ℕ) (tree matrix order lows highs : List ℕ) (D : Desc
   abbrev ChosenBy : ℕ → List ℕ → Type 0
   ChosenBy = ChosenTo n c j tree matrix order lows highs
 
-  pub chosen_none : (states : List ℕ) → length states ≡ n - 2 → ChosenBy 0 states
-  chosen_none states e = record { long = e; chosen = λ k l. absurd (omega arith) }
-
   pub chosen-all : (i : ℕ) (states : List ℕ) → ChosenBy i states → n - 2 ≤ i → Chooses n c j ρ tree matrix lows highs states
   chosen-all i states P h =
       record {
@@ -128,14 +125,3 @@ module _ (n c j ρ δ : ℕ) (tree matrix order lows highs : List ℕ) (D : Desc
           (λ w. (from x : ℕ) → ChosenAt n c j w tree matrix states from
           → pos x ≡ nearest (span (get_or lows (w - n - 1) 0) (get_or highs (w - n - 1) 0)) (pos from) → ChosenBy (i + 1) (set states (w - n - 1) x))
           (sym e) chosen_next
-
--- ---- the state of a node's ancestor
-
-module _ (n c j v : ℕ) (tree matrix states : List ℕ) (u : ℕ) (e : u ≡ ancestor tree v) where
-  pub at-taxon : u ≤ n → (r : ℕ) → r ≡ state_of matrix c j u → ChosenAt n c j v tree matrix states r
-  at-taxon l r q = ap pos q ∙ sym (way-taxon n (state_of matrix c j) states u l) ∙ ap (way_of n (state_of matrix c j) states) e
-
-  pub at_inner : n < u → ChosenAt n c j v tree matrix states (get_or states (u - n - 1) 0)
-  at_inner h =
-      let place : u - n - 1 ≡ u - suc n = omega arith in
-      ap (λ k. pos (get_or states k 0)) place ∙ sym (way-inner n (state_of matrix c j) states u h) ∙ ap (way_of n (state_of matrix c j) states) e
