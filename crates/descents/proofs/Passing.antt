@@ -49,7 +49,7 @@ module _ (n c j ρ δ : ℕ) (tree matrix order lows highs : List ℕ) where
 
 -- ---- the turns
 
-module _ (n c j ρ δ : ℕ) (tree matrix order lows highs : List ℕ) (D : Descends n c j ρ δ tree matrix order lows highs) where
+module _ {n c j ρ δ : ℕ} {tree matrix order lows highs : List ℕ} (D : Descends n c j ρ δ tree matrix order lows highs) where
   abbrev turn : ℕ → ℕ
   turn k = get_or order k 0
 
@@ -100,9 +100,9 @@ module _ (n c j ρ δ : ℕ) (tree matrix order lows highs : List ℕ) (D : Desc
   abbrev Passed : (i : ℕ) (above : List Range) (lows' highs' : List ℕ) → Type 0
   Passed = PassedTo n c j ρ δ tree matrix order lows highs
 
-  pub passed_all : (i : ℕ) (above : List Range) (lows' highs' : List ℕ) → Passed i above lows' highs' → n - 2 ≤ i
+  pub passed_all : {i : ℕ} {above : List Range} {lows' highs' : List ℕ} → Passed i above lows' highs' → n - 2 ≤ i
       → Finals n c j ρ δ tree matrix lows highs lows' highs'
-  passed_all i above lows' highs' P h =
+  passed_all {i} {above} {lows'} {highs'} P h =
       record {
         above = above_of n above;
         second =
@@ -135,7 +135,7 @@ module _ (n c j ρ δ : ℕ) (tree matrix order lows highs : List ℕ) (D : Desc
 
   -- ---- one turn
 
-  module _ (i : ℕ) (above : List Range) (lows' highs' : List ℕ) (P : Passed i above lows' highs') (l : i < n - 2)
+  module _ {i : ℕ} {above : List Range} {lows' highs' : List ℕ} (P : Passed i above lows' highs') (l : i < n - 2)
       (left right : List ℕ) (F : Filled n tree left right) where
     abbrev v : ℕ
     v = turn i
@@ -311,7 +311,7 @@ module _ (n c j ρ δ : ℕ) (tree matrix order lows highs : List ℕ) (D : Desc
       turned = rw W.low_written (rw W.high_written one-turn)
 
     -- the same of a node that is known to be the one whose turn it is
-    module _ (u : ℕ) (e : u ≡ v) where
+    module _ {u : ℕ} (e : u ≡ v) where
       pub seeing_at : Seeing n c j ρ δ u tree matrix left right lows highs above
       seeing_at = subst (λ w. Seeing n c j ρ δ w tree matrix left right lows highs above) (sym e) seeing
 

@@ -35,18 +35,7 @@ pub fn final_ranges(
     for i in 0..n - 2 {
         let node = usize::from(order[i]);
         let seen = nodes::see(
-            n,
-            c,
-            character,
-            root,
-            top,
-            node,
-            tree,
-            matrix,
-            shape,
-            lows,
-            highs,
-            &above,
+            n, c, character, root, top, node, tree, matrix, shape, lows, highs, &above,
         );
         above[node - n - 1] = seen;
         nodes::finish(

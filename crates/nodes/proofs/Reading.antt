@@ -76,7 +76,7 @@ finished n c j v r matrix left right lows highs lows₀ highs₀ h a b ea eb x y
 
 -- ---- from above
 
-module _ (n c j ρ δ v : ℕ) (tree matrix left right lows highs : List ℕ) (above : List Range)
+module _ {n c j ρ δ v : ℕ} {tree matrix left right lows highs : List ℕ} {above : List Range}
     (S : Seeing n c j ρ δ v tree matrix left right lows highs above) where
   abbrev T : Tree
   T = record { n = n; tree = tree; ρ = ρ; δ = δ; is_tree = S.accepted.is_tree }

@@ -69,7 +69,11 @@ pub fn see(
         };
     }
     let at = usize::from(tree[node - 1]) - n - 1;
-    let sister = other_of(node, usize::from(shape.left[at]), usize::from(shape.right[at]));
+    let sister = other_of(
+        node,
+        usize::from(shape.left[at]),
+        usize::from(shape.right[at]),
+    );
     let beside = range_at(n, c, character, sister, matrix, lows, highs);
     ranges::join(beside, above[at])
 }
@@ -94,8 +98,24 @@ pub fn finish(
         highs.now final_lows.old final_highs.old final_lows.new final_highs.new }
 {
     let at = node - n - 1;
-    let a = range_at(n, c, character, usize::from(shape.left[at]), matrix, lows, highs);
-    let b = range_at(n, c, character, usize::from(shape.right[at]), matrix, lows, highs);
+    let a = range_at(
+        n,
+        c,
+        character,
+        usize::from(shape.left[at]),
+        matrix,
+        lows,
+        highs,
+    );
+    let b = range_at(
+        n,
+        c,
+        character,
+        usize::from(shape.right[at]),
+        matrix,
+        lows,
+        highs,
+    );
     let last = ranges::final_range(a, b, above);
     final_lows[at] = last.low;
     final_highs[at] = last.high;

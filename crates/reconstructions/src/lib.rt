@@ -87,5 +87,7 @@ pub fn reconstruct(
         Resolve::Acctran => (first_lows, first_highs),
         Resolve::Deltran => (final_lows, final_highs),
     };
-    choose_states(n, c, character, root, top, tree, matrix, order, lows, highs, states);
+    choose_states(
+        n, c, character, root, top, tree, matrix, order, lows, highs, states,
+    );
 }

@@ -13,18 +13,10 @@ up : (c : After-from) → c.from.result ≡ ancestor c.args.tree.now c.args.node
 up c = c.from.ensures ∙ sym (entry_of c.args.tree.now _ (omega (arith, c.requires.inner)))
 
 inner : (c : After-from) → c.args.n < c.from.result
-inner c =
-    up_inner _ _ _ _ _ _ c.args.tree.now c.args.matrix.now c.args.shape.now.left
-    c.args.shape.now.right c.args.lows.now c.args.highs.now
-    c.args.above.now c.requires c.if-node-top.false _
-    (up c)
+inner c = up_inner c.requires c.if-node-top.false _ (up c)
 
 pub returns-then-node-top : goal.returns-then-node-top
-returns-then-node-top c =
-    sees_root _ _ _ _ _ _ c.args.tree.now c.args.matrix.now c.args.shape.now.left
-    c.args.shape.now.right c.args.lows.now c.args.highs.now
-    c.args.above.now c.requires
-    c.if-node-top.true _ c.state_of-state.ensures
+returns-then-node-top c = sees_root c.requires c.if-node-top.true _ c.state_of-state.ensures
 
 pub overflow_sub-at : goal.overflow_sub-at
 overflow_sub-at c = omega (arith, inner (goal.at.overflow_sub-at c).After-from)
@@ -34,27 +26,16 @@ overflow_sub-at-2 c = omega (arith, inner (goal.at.overflow_sub-at-2 c).After-fr
 
 pub range_at-beside-requires : goal.range_at-beside-requires
 range_at-beside-requires c =
-    sister_readable _ _ _ _ _ _ c.args.tree.now c.args.matrix.now
-    c.args.shape.now.left c.args.shape.now.right c.args.lows.now
-    c.args.highs.now c.args.above.now
-    c.requires c.if-node-top.false _ (up (goal.at.range_at-beside-requires c).After-from) _ _ c.from-2.ensures
+    sister_readable c.requires c.if-node-top.false _ (up (goal.at.range_at-beside-requires c).After-from) _ _ c.from-2.ensures
     c.from-3.ensures _ c.other_of-sister.ensures
 
--- what its ancestor sees is a range
 pub join-requires : goal.join-requires
 join-requires c = (
   c.range_at-beside.ensures.fits,
-  above-fits _ _ _ _ _ _ c.args.tree.now c.args.matrix.now
-      c.args.shape.now.left c.args.shape.now.right c.args.lows.now
-      c.args.highs.now c.args.above.now
-      c.requires c.if-node-top.false _ (up (goal.at.join-requires c).After-from) _ _ c.from-2.ensures
-      c.from-3.ensures,
+  above-fits c.requires c.if-node-top.false _ (up (goal.at.join-requires c).After-from) _ _ c.from-2.ensures c.from-3.ensures,
 )
 
 pub returns : goal.returns
 returns c =
-    sees_join _ _ _ _ _ _ c.args.tree.now c.args.matrix.now c.args.shape.now.left
-    c.args.shape.now.right c.args.lows.now c.args.highs.now
-    c.args.above.now c.requires c.if-node-top.false _
-    (up (goal.at.returns c).After-from) _ _ c.from-2.ensures c.from-3.ensures _ c.other_of-sister.ensures _ _
-    c.range_at-beside.ensures c.join.ensures
+    sees_join c.requires c.if-node-top.false _ (up (goal.at.returns c).After-from) _ _ c.from-2.ensures c.from-3.ensures
+    _ c.other_of-sister.ensures _ _ c.range_at-beside.ensures c.join.ensures
