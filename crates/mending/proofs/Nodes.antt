@@ -25,7 +25,7 @@ own-length n lengths v l = ap (λ k. get_or lengths k 0) (omega arith) ∙ sym (
 
 -- ---- the two descendants, read by the node's place
 
-module _ {n c j v : ℕ} {matrix left right lows highs lengths : List ℕ} (M : MendsNode n c j v matrix left right lows highs lengths) where
+module _ (n c j v : ℕ) (matrix left right lows highs lengths : List ℕ) (M : MendsNode n c j v matrix left right lows highs lengths) where
   pub node_place : v - n - 1 < n - 2
   node_place = omega (arith, M.inner, M.last)
 

@@ -28,7 +28,7 @@ use Rattle.mending.proofs.Climbs as climbs
 use Rattle.mending.proofs.Turns.{MendedTo}
 use Rattle.mending.specs.Mending.{SameAt, MendsNode, MendedNode, MendsPath}
 
-module _ {n c j t count : ℕ} {tree matrix left right path lows₀ highs₀ lengths₀ : List ℕ}
+module _ (n c j t count : ℕ) (tree matrix left right path lows₀ highs₀ lengths₀ : List ℕ)
     (M : MendsPath n c j t count tree matrix left right path lows₀ highs₀ lengths₀) where
   abbrev T : Tree
   T = record { n = n; tree = tree; ρ = M.ρ; δ = M.δ; is_tree = M.accepted.is_tree }
@@ -63,7 +63,7 @@ module _ {n c j t count : ℕ} {tree matrix left right path lows₀ highs₀ len
 
   -- ---- one node more
 
-  module _ {i : ℕ} (l : i < count) {lows highs lengths : List ℕ} (D : MendedBy i lows highs lengths) where
+  module _ (i : ℕ) (l : i < count) (lows highs lengths : List ℕ) (D : MendedBy i lows highs lengths) where
     abbrev v : ℕ
     v = step i
 
@@ -322,6 +322,7 @@ module _ {n c j t count : ℕ} {tree matrix left right path lows₀ highs₀ len
       mended-more : MendedBy (i + 1) lows' highs' lengths'
       mended-more =
           record {
+            turns = omega arith;
             low_long = ap length W.low_written ∙ length-set lows (v - n - 1) W.range.low ∙ D.low_long;
             high_long = ap length W.high_written ∙ length-set highs (v - n - 1) W.range.high ∙ D.high_long;
             length_long = ap length W.length_written ∙ length-set lengths (v - n - 1) new ∙ D.length_long;
@@ -355,7 +356,7 @@ module _ {n c j t count : ℕ} {tree matrix left right path lows₀ highs₀ len
           short h m (no e) = let (p, q, r) = before h (omega arith) in omega (arith, D.short h (omega arith))
 
     -- the same of a node that is known to be the one whose turn it is
-    module _ {u : ℕ} (e : u ≡ get_or path i 0) where
+    module _ (u : ℕ) (e : u ≡ get_or path i 0) where
       here : u ≡ v
       here = e ∙ step_is i l
 

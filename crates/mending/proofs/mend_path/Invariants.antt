@@ -1,6 +1,10 @@
--- `mend_path` settles one node of the path after the other. The invariant: those passed are settled, and nothing else is written.
+-- `mend_path` settles one node of the path after the other. The invariant: the first i of them are settled, and nothing else is written.
+use Prim.Native.Nat.{◌-◌}
 use Rattle.mending.proofs.Turns.{MendedTo}
 use Rattle.mending.proofs.mend_path.Given as goal
 
-abbrev pub invariant-loop-node : goal.invariant-loop-node
-invariant-loop-node l = MendedTo l.n l.c l.character l.taxon l.path.count l.tree l.matrix l.initial.lows l.initial.highs l.initial.lengths l.node-index l.lows l.highs l.lengths
+abbrev pub invariant-loop-i : goal.invariant-loop-i
+invariant-loop-i l = MendedTo l.n l.c l.character l.taxon l.count l.tree l.matrix l.initial.lows l.initial.highs l.initial.lengths l.i l.lows l.highs l.lengths
+
+abbrev pub decreases-loop-i : goal.decreases-loop-i
+decreases-loop-i l = l.count - l.i
