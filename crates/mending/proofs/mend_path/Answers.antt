@@ -11,10 +11,10 @@ pub bounds-path-i : goal.bounds-path-i
 bounds-path-i c = omega (arith, room c.requires)
 
 pub mend_node-requires : goal.mend_node-requires
-mend_node-requires c = mends_at c.requires c.loop-i-test.true c.loop-i.invariant c.from-node.ensures
+mend_node-requires c = mends_at c.requires (omega arith) c.loop-i.invariant c.from-node.ensures
 
 pub loop-i-preserved : goal.loop-i-preserved
-loop-i-preserved c = mended-at c.requires c.loop-i-test.true c.loop-i.invariant c.from-node.ensures _ _ _ c.mend_node.ensures
+loop-i-preserved c = mended-at c.requires (omega arith) c.loop-i.invariant c.from-node.ensures _ _ _ c.mend_node.ensures
 
 pub returns : goal.returns
 returns c = mended-all c.requires c.loop-i.invariant (omega arith)
