@@ -6,6 +6,7 @@ ghost use Rattle.scores.specs.Scores.{CharacterMeans};
 ghost use Rattle.character_scores.specs.CharacterScores.{GivenOne};
 
 use choices::Resolve;
+use refusals::{long, wide};
 use scores::Scores;
 
 // The passes over one character, once no check applies.
@@ -43,17 +44,21 @@ pub fn score_one(
           states = states.new;
         }) result }
 {
-    let shape = shapes::descendants(n, tree);
-    let order = orders::order(n, top, &shape);
-    let root = usize::from(root);
-    let top = usize::from(top);
+    let mut left = [0u16; 254];
+    let mut right = [0u16; 254];
+    let mut order = [0u16; 254];
+    shapes::descendants(n, tree, &mut left, &mut right);
+    orders::order(n, top, &left, &right, &mut order);
+    let root = wide(root);
+    let top = wide(top);
     let length = first_passes::begin(
         n,
         c,
         character,
         root,
         top,
-        &shape,
+        &left,
+        &right,
         matrix,
         first_lows,
         first_highs,
@@ -67,7 +72,8 @@ pub fn score_one(
         top,
         tree,
         matrix,
-        &shape,
+        &left,
+        &right,
         &order,
         first_lows,
         first_highs,
@@ -90,7 +96,7 @@ pub fn score_one(
         final_highs,
         states,
     );
-    let m = u32::from(indices::m(n, c, character, matrix));
+    let m = long(indices::m(n, c, character, matrix));
     let g = indices::g(n, c, character, root, matrix);
     scores::score(length, m, g)
 }
