@@ -11,8 +11,8 @@ use std::fmt::Display;
 // A text that holds cases, each a row of numbers with one byte behind each that is no digit, and the position of what is read next.
 #[derive(Drop)]
 pub struct Cases<'a> {
-    text: &'a [u8],
-    at: usize,
+    pub text: &'a [u8],
+    pub at: usize,
 }
 
 impl<'a> Cases<'a> {
