@@ -1,7 +1,7 @@
 // What the programs that run cases share: numbers and lists read out of a text one after the other, and lists printed, in full or as a digest.
 #![tactic(auto)]
 
-ghost use Rattle.std.specs.Prelude.{◌≡◌, ◌≤◌, ◌↔◌, IsTrue, length, EachIndex, slice_index};
+ghost use Rattle.std.specs.Prelude.{◌≡◌, ◌≤◌, ◌↔◌, IsTrue, min, length, EachIndex, slice_index};
 ghost use Rattle.cases.specs.Reading.{value_at, place};
 ghost use Rattle.cases.specs.Printing.{spaced, Digests};
 
@@ -50,6 +50,15 @@ impl<'a> Cases<'a> {
                 0
             }
         }
+    }
+
+    // The next number, but at most `most`: how long a slice is lent.
+    pub fn at_most(&mut self, most: usize) -> usize
+        ensures text { self.new.text.now ≡ self.old.text.now }
+        ensures value { result ≡ min (value_at self.old.text.now self.old.at) most }
+        ensures next { self.new.at ≡ place self.old.text.now self.old.at 1 }
+    {
+        usize::from(self.number()).min(most)
     }
 
     // Fills a list with the next numbers.
