@@ -23,6 +23,7 @@ fn main(rt: HostRuntime) -> io::Result<()> {
     let mut text = [0u8; 65536];
     let length = inputs::read_full(&mut rt.stdin(), &mut text)?;
     let mut cases = Cases::new(&text[..length]);
+    // Each case takes a byte or more. A `while` would be no plainer: that it ends would have to be said by a clause of each function here.
     for _ in 0..length {
         if cases.are_read() {
             break;
