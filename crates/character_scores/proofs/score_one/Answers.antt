@@ -6,6 +6,13 @@ use Rattle.indices.proofs.Most.{m-most}
 use Rattle.character_scores.proofs.Meaning.{wider, descends, turns, begun, means}
 use Rattle.character_scores.proofs.score_one.Goals as goal
 
+pub final_ranges-requires : goal.final_ranges-requires
+final_ranges-requires c =
+    let G = wider c.requires c.from-root.ensures c.from-top.ensures in
+    let O = turns c.requires c.descendants-shape.ensures c.from-top.ensures c.order-order.ensures in
+    let B = begun G c.descendants-shape.ensures c.begin-length.ensures in
+    (descends G O B.low_long B.high_long B.fits, c.descendants-shape.ensures, c.requires.long.final_lows, c.requires.long.final_highs)
+
 pub reconstruct-requires : goal.reconstruct-requires
 reconstruct-requires c =
     let G = wider c.requires c.from-root.ensures c.from-top.ensures in
