@@ -8,6 +8,7 @@ use native.Mathlib.Decide.{dec_le}
 use native.Mathlib.Nat.{mul-le-mul_right}
 use native.Mathlib.Omega.{arith}
 use lib.ListN.{length}
+use Rattle.std.specs.Prelude.{Option, Result, Ok, Err}
 use Rattle.parsimony.specs.Table.{Accepted}
 use Rattle.parsimony.specs.Matrix.{state_of}
 use Rattle.parsimony.proofs.Tables.Trees.{Tree, δ-most}
@@ -17,10 +18,8 @@ use Rattle.refusals.specs.Checks.{Check, at, Clear, Refuses, Passes, Slice, slic
 use Rattle.refusals.proofs.Order.{clear_at, refuses_before, refuses_after, passes_append}
 use Rattle.trees.specs.Answers.{tree_faults}
 use Rattle.trees.proofs.Unique.{accepted-passes}
-use Rattle.limits.specs.declared.Lent.{Lent}
 use Rattle.limits.specs.Limits.{Outside, lent_slices, Told, InLimits}
 use Rattle.limits.proofs.Lending.{exact-clear, not_outside}
-use Rattle.checks.specs.declared.Admission.TheVariants.{Admitted, Refused}
 use Rattle.checks.specs.Calls.{NoCharacter, character_cell, cell_checks, matrix_checks, AdmitsCharacter, AdmitsMatrix}
 use Rattle.checks.proofs.Admitting.{clear-cell}
 use Rattle.checks.proofs.Orders.{admissible, rest-passes, passes-call, matrix-passes, matrix-inside, sized}
@@ -28,11 +27,7 @@ use Rattle.cells.proofs.Reading.{states-small}
 use Rattle.characters.proofs.Calling.{given-all}
 use Rattle.tables.specs.Tables.{TableLong}
 use Rattle.entries.specs.Entries.{all_entries}
-use Rattle.corrections.specs.declared.Count.{Count}
-use Rattle.corrections.specs.declared.Count.TheVariants as count
 use Rattle.table_corrections.specs.TableCorrections.{CorrectableIn, CorrectsIn}
-use Rattle.tallies.specs.declared.Length.{Length}
-use Rattle.tallies.specs.declared.Length.TheVariants as length'
 use Rattle.tallies.specs.Tallies.{Totals, SumsOr}
 use Rattle.histories.specs.Kept.{Table, table_slices, NoTaxon, correction_checks, correct_checks, Corrects, length_checks, HasLengths}
 use Rattle.kept.specs.Steps.{Wanted}
@@ -71,12 +66,12 @@ refuses_past (c ∷ cs) ds es r h (k, p) = inr (k, refuses_past cs ds es r h p)
 
 -- ---- calls about all characters
 
-module _ (n c : ℕ) (tree matrix : List ℕ) (T : Table) (L : InLimits n c) (told : Lent)
+module _ (n c : ℕ) (tree matrix : List ℕ) (T : Table) (L : InLimits n c) (told : Option ℕ)
     (t : Told 1 (lent_slices n c tree matrix (table_slices n c T)) told) where
-  pub matrix-refused : (r : Refusal) → AdmitsMatrix n c tree matrix told (Refused r) → Refuses (matrix_checks n c tree matrix (table_slices n c T)) r
+  pub matrix-refused : (r : Refusal) → AdmitsMatrix n c tree matrix told (Err r) → Refuses (matrix_checks n c tree matrix (table_slices n c T)) r
   matrix-refused r h = matrix-inside n c tree matrix (table_slices n c T) L r (h (lent_slices n c tree matrix (table_slices n c T)) t)
 
-  module _ (ρ δ : ℕ) (A : AdmitsMatrix n c tree matrix told (Admitted ρ δ)) where
+  module _ (ρ δ : ℕ) (A : AdmitsMatrix n c tree matrix told (Ok (record { root = ρ; top = δ }))) where
     pub long-all : TableLong n c T.lows T.highs T.lengths
     long-all = (table-long n c T [] (rest-passes n c tree matrix (table_slices n c T) L told t A.0)).0
 
@@ -103,8 +98,8 @@ module _ (n c : ℕ) (tree matrix : List ℕ) (T : Table) (L : InLimits n c) (to
           whole : Tree
           whole = record { n = n; tree = tree; ρ = ρ'; δ = δ'; is_tree = accepted'.is_tree }
 
-      pub has-lengths : (r : Length) → SumsOr n c ρ' δ' matrix T.lows T.highs T.lengths r → HasLengths n c tree matrix T r
-      has-lengths (length'.Length l) (P, I) =
+      pub has-lengths : (r : Result ℕ Refusal) → SumsOr n c ρ' δ' matrix T.lows T.highs T.lengths r → HasLengths n c tree matrix T r
+      has-lengths (Ok l) (P, I) =
           record {
             passes = passes_append (matrix_checks n c tree matrix (table_slices n c T)) (all_entries n c T.lows T.highs T.lengths ∷ []) passes-all P;
             ρ = ρ';
@@ -112,18 +107,18 @@ module _ (n c : ℕ) (tree matrix : List ℕ) (T : Table) (L : InLimits n c) (to
             accepted = accepted';
             total = I tree;
           }
-      has-lengths (length'.Refused r) h =
+      has-lengths (Err r) h =
           refuses_after (matrix_checks n c tree matrix (table_slices n c T)) (all_entries n c T.lows T.highs T.lengths ∷ []) r passes-all h
 
-  pub length-refused : (r : Refusal) → AdmitsMatrix n c tree matrix told (Refused r) → Refuses (length_checks n c tree matrix T) r
+  pub length-refused : (r : Refusal) → AdmitsMatrix n c tree matrix told (Err r) → Refuses (length_checks n c tree matrix T) r
   length-refused r h =
       refuses_before (matrix_checks n c tree matrix (table_slices n c T)) (all_entries n c T.lows T.highs T.lengths ∷ []) r (matrix-refused r h)
 
 -- ---- a correction
 
-module _ (n c t j s : ℕ) (tree matrix : List ℕ) (T : Table) (L : InLimits n c) (told : Lent)
+module _ (n c t j s : ℕ) (tree matrix : List ℕ) (T : Table) (L : InLimits n c) (told : Option ℕ)
     (m : Told 1 (lent_slices n c tree matrix (table_slices n c T)) told) (w : ℕ) (W : Wanted n t j w) where
-  pub correct_refused : (r : Refusal) → AdmitsCharacter n c w tree matrix told (Refused r) → Refuses (correct_checks n c t j s tree matrix T) r
+  pub correct_refused : (r : Refusal) → AdmitsCharacter n c w tree matrix told (Err r) → Refuses (correct_checks n c t j s tree matrix T) r
   correct_refused r h =
       inr (
         clear_at 1 0 (Outside n c) (not_outside n c L),
@@ -156,7 +151,7 @@ module _ (n c t j s : ℕ) (tree matrix : List ℕ) (T : Table) (L : InLimits n 
       cells-refused (yes p) (yes q) h =
           in_cells (W.same p q) p q (subst (λ x. Refuses (cell_checks n c x matrix) r) (W.same p q) h)
 
-  module _ (ρ δ : ℕ) (A : AdmitsCharacter n c w tree matrix told (Admitted ρ δ)) where
+  module _ (ρ δ : ℕ) (A : AdmitsCharacter n c w tree matrix told (Ok (record { root = ρ; top = δ }))) where
     -- a character is looked at, so there is the taxon
     taxon : (1 ≤ t) × (t ≤ n)
     taxon = go (dec_le 1 t) (dec_le t n)
@@ -221,10 +216,10 @@ module _ (n c t j s : ℕ) (tree matrix : List ℕ) (T : Table) (L : InLimits n 
             → ◌≡◌ {A = Table} (record { lows = x'; highs = y'; lengths = z' }) (record { lows = x; highs = y; lengths = z })
         made a b d = cc
 
-    pub corrects : (matrix' : List ℕ) (T' : Table) (r : Count)
+    pub corrects : (matrix' : List ℕ) (T' : Table) (r : Result ℕ Refusal)
         → CorrectsIn n c t j s tree matrix T.lows T.highs T.lengths matrix' T'.lows T'.highs T'.lengths r
         → Corrects n c t j s tree matrix T matrix' T' r
-    corrects matrix' T' (count.Rewritten k) C =
+    corrects matrix' T' (Ok k) C =
         record {
           passes = passes-call n c tree matrix (table_slices n c T) L told m (correction_checks n c t j s tree matrix T) A.0 ρ δ A.1
               (clear_8, (clear_7, C.here.passes));
@@ -234,5 +229,5 @@ module _ (n c t j s : ℕ) (tree matrix : List ℕ) (T : Table) (L : InLimits n 
           others = C.others;
           path = C.here.mended.path;
         }
-    corrects matrix' T' (count.Refused r) (h, e, a, b, d) =
+    corrects matrix' T' (Err r) (h, e, a, b, d) =
         (late (correction_checks n c t j s tree matrix T) r (inr (clear_8, inr (clear_7, h))), e, same-table T' a b d)

@@ -8,12 +8,11 @@ use native.Mathlib.Decide.{dec_le}
 use native.Mathlib.Omega.{arith}
 use lib.ListN.{length, get_or, get_or-append}
 use lib.Seq.{sets-eq}
+use Rattle.std.specs.Prelude.{Option, Some, None}
 use Rattle.parsimony.specs.Table.{ancestor, climb, below}
 use Rattle.parsimony.specs.Character.{at_node}
 use Rattle.parsimony.proofs.Tables.Trees.{Tree, steps_below}
 use Rattle.refusals.specs.Search.{Finds}
-use Rattle.refusals.specs.declared.Found.{Found}
-use Rattle.refusals.specs.declared.Found.TheVariants.{At, Nowhere}
 use Rattle.paths.specs.Paths.{path_of, Pathable, IsPath}
 use Rattle.paths.proofs.Paths.{path-at, path-all, path-short}
 use Rattle.shapes.proofs.Subtrees.{ancestor_in}
@@ -21,15 +20,15 @@ use Rattle.entries.specs.Entries.{BadBeside, Marks, Marked, BadMarked, Besides}
 use Rattle.repairs.specs.Repairs.{Correctable, HasPath, Looks}
 
 -- a search for one thing finds another, where both hold of the same numbers
-pub finds_same : (P Q : ℕ → Type 0) (m : ℕ) → ((k : ℕ) → 1 ≤ k → k ≤ m → P k ↔ Q k) → (r : Found) → Finds P m r → Finds Q m r
-finds_same P Q m h (At k) F =
+pub finds_same : (P Q : ℕ → Type 0) (m : ℕ) → ((k : ℕ) → 1 ≤ k → k ≤ m → P k ↔ Q k) → (r : Option ℕ) → Finds P m r → Finds Q m r
+finds_same P Q m h (Some k) F =
     record {
       some = F.some;
       most = F.most;
       holds = (h k F.some F.most).0 F.holds;
       first = λ j p l q. F.first j p l ((h j p (omega (arith, F.most))).1 q);
     }
-finds_same P Q m h Nowhere F = λ k p l q. F k p l ((h k p l).1 q)
+finds_same P Q m h None F = λ k p l q. F k p l ((h k p l).1 q)
 
 module _ (n t count : ℕ) (tree path lows highs lengths : List ℕ) (S : Looks n t count tree path lows highs lengths) where
   abbrev T : Tree
@@ -91,7 +90,7 @@ module _ (n t count : ℕ) (tree path lows highs lengths : List ℕ) (S : Looks 
         away lo h (no l) = omega arith
 
     -- what a search by the marks finds
-    pub found-beside : (r : Found) → Finds (BadMarked n tree marks lows highs lengths) (2 * n - 2) r
+    pub found-beside : (r : Option ℕ) → Finds (BadMarked n tree marks lows highs lengths) (2 * n - 2) r
         → Finds (BadBeside n t tree lows highs lengths) (2 * n - 2) r
     found-beside = finds_same (BadMarked n tree marks lows highs lengths) (BadBeside n t tree lows highs lengths) (2 * n - 2) beside_same
 

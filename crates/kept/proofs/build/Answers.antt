@@ -7,7 +7,6 @@ use Rattle.limits.proofs.Lending.{in_limits}
 use Rattle.checks.specs.Calls.{AdmitsMatrix}
 use Rattle.checks.proofs.Orders.{admissible}
 use Rattle.histories.specs.Kept.{Table, table_slices}
-use Rattle.checks.specs.declared.Admission.TheVariants.{Admitted, Refused}
 use Rattle.scores.proofs.Summing.{wider}
 use Rattle.characters.proofs.Calling.{given-all}
 use Rattle.kept.proofs.Calling.{matrix-refused, long-all, passes-all}

@@ -7,7 +7,6 @@ use Rattle.limits.proofs.Lending.{in_limits}
 use Rattle.checks.specs.Calls.{AdmitsCharacter}
 use Rattle.checks.proofs.Orders.{admissible}
 use Rattle.histories.specs.Kept.{Table, table_slices}
-use Rattle.checks.specs.declared.Admission.TheVariants.{Admitted, Refused}
 use Rattle.kept.proofs.Calling.{correct_refused, correctable_in, corrects}
 use Rattle.kept.proofs.correct.Goals as goal
 use Rattle.kept.proofs.correct.Goals.{After-lend-from1, Else-outside, In-Admitted, In-Refused, Start}

@@ -7,7 +7,6 @@ use Rattle.limits.proofs.Lending.{in_limits}
 use Rattle.checks.specs.Calls.{AdmitsMatrix}
 use Rattle.checks.proofs.Orders.{admissible}
 use Rattle.histories.specs.Kept.{Table, table_slices}
-use Rattle.checks.specs.declared.Admission.TheVariants.{Admitted, Refused}
 use Rattle.kept.proofs.Calling.{length-refused, totals, has-lengths}
 use Rattle.kept.proofs.kept_length.Goals as goal
 use Rattle.kept.proofs.kept_length.Goals.{After-lend-from1, Else-outside, In-Admitted, In-Refused, Start}

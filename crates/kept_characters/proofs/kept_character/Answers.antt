@@ -10,7 +10,6 @@ use Rattle.limits.proofs.Lending.{in_limits}
 use Rattle.checks.specs.Calls.{AdmitsCharacter}
 use Rattle.checks.proofs.Orders.{admissible}
 use Rattle.histories.specs.Kept.{Table, table_slices, kept_slices}
-use Rattle.checks.specs.declared.Admission.TheVariants.{Admitted, Refused}
 use Rattle.kept_characters.proofs.Calling.{kept-refused, kept-ends, readable, answers}
 use Rattle.kept_characters.proofs.kept_character.Goals as goal
 use Rattle.kept_characters.proofs.kept_character.Goals.{After-lend-from1, Else-outside, In-Admitted, In-Refused, Start}
