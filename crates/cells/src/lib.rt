@@ -20,12 +20,18 @@ pub fn state_above(n: usize, c: usize, matrix: &[u16]) -> Option<usize>
     requires { length matrix.now ≡ n * c }
     ensures { Finds (AboveAt matrix.now) (n * c) result }
 {
-    for (i, state) in matrix.iter().enumerate() {
-        if 9999 < *state {
-            return Some(i + 1);
+    // two nested loops, left by a label: document 01 names this form
+    let mut found = None;
+    'search: for t in 0..n {
+        for j in 0..c {
+            let cell = t * c + j;
+            if 9999 < matrix[cell] {
+                found = Some(cell + 1);
+                break 'search;
+            }
         }
     }
-    None
+    found
 }
 
 // The lowest taxon whose state in the character is above 9999.

@@ -1,9 +1,8 @@
 -- The lines of a report in print: a key, a value, LF; and an index as a value.
 -- Assumes nothing.
-use Rattle.std.specs.Prelude.{List, [], ◌∷◌, ◌++◌, ℕ, ◌+◌, ◌*◌, ◌/◌}
+use Rattle.std.specs.Prelude.{List, [], ◌∷◌, ◌++◌, ℕ, ◌+◌, ◌*◌, ◌/◌, Option, Some, None}
 use Rattle.numbers.specs.Printed.{decimal}
-use Rattle.indices.specs.declared.Index.{Index}
-use Rattle.indices.specs.declared.Index.TheVariants.{Fraction, None}
+use Rattle.indices.specs.declared.Fraction.{Fraction}
 
 -- a text of one byte
 abbrev pub byte : ℕ → List ℕ
@@ -24,6 +23,6 @@ abbrev pub fraction : (over under : ℕ) → List ℕ
 fraction over under = decimal over ++ (byte 47 ++ (decimal under ++ (byte 44 ++ decimal (thousandths over under))))
 
 -- that, or none
-abbrev pub index : Index → List ℕ
-index (Fraction over under) = fraction over under
+abbrev pub index : Option Fraction → List ℕ
+index (Some f) = fraction f.over f.under
 index None = 110 ∷ 111 ∷ 110 ∷ 101 ∷ []

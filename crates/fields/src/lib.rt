@@ -9,7 +9,7 @@ ghost use Rattle.fields.specs.Fields as text;
 ghost use Rattle.fields.specs.Proper.{AtMost, Proper};
 ghost use Rattle.fields.specs.Fitting.{Fitting};
 
-use indices::Index;
+use indices::Fraction;
 use printing::{put_bytes, put_number};
 
 // Writes a byte.
@@ -29,50 +29,51 @@ pub fn put_count(out: &mut [u8], at: usize, key: &[u8], v: u32) -> usize
 {
     let value = put_bytes(out, at, key);
     let end = put_number(out, value, v);
-    put_byte(out, end, 10)
+    put_byte(out, end, b'\n')
 }
 
 // ---- an index
 
 // A fraction in thousandths, halves up.
-fn thousandths(over: u32, under: u32) -> u32
-    requires { AtMost over under }
-    ensures { result ≡ text.thousandths over under }
+fn thousandths(fraction: Fraction) -> u32
+    requires { AtMost fraction.over fraction.under }
+    ensures { result ≡ text.thousandths fraction.over fraction.under }
 {
-    ((2000 * (over as u64) + (under as u64)) / (2 * (under as u64))) as u32
+    let over = u64::from(fraction.over);
+    let under = u64::from(fraction.under);
+    ((2000 * over + under) / (2 * under)) as u32
 }
 
 // Writes a fraction, and its thousandths after a comma.
-fn put_fraction(out: &mut [u8], at: usize, over: u32, under: u32) -> usize
-    requires { AtMost over under × (at + 26 ≤ length out.old) }
-    ensures { Fitting out.old out.new at result (text.fraction over under) 26 }
+fn put_fraction(out: &mut [u8], at: usize, fraction: Fraction) -> usize
+    requires { AtMost fraction.over fraction.under × (at + 26 ≤ length out.old) }
+    ensures { Fitting out.old out.new at result (text.fraction fraction.over fraction.under) 26 }
 {
-    let parts = thousandths(over, under);
-    let slash = put_number(out, at, over);
-    let second = put_byte(out, slash, 47);
-    let comma = put_number(out, second, under);
-    let third = put_byte(out, comma, 44);
-    put_number(out, third, parts)
+    let slash = put_number(out, at, fraction.over);
+    let second = put_byte(out, slash, b'/');
+    let comma = put_number(out, second, fraction.under);
+    let third = put_byte(out, comma, b',');
+    put_number(out, third, thousandths(fraction))
 }
 
 // Writes an index, or none.
-fn put_value(out: &mut [u8], at: usize, index: Index) -> usize
+fn put_value(out: &mut [u8], at: usize, index: Option<Fraction>) -> usize
     requires { Proper index × (at + 26 ≤ length out.old) }
     ensures { Fitting out.old out.new at result (text.index index) 26 }
 {
     match index {
-        Index::Fraction(over, under) => put_fraction(out, at, over, under),
-        Index::None => put_bytes(out, at, b"none"),
+        Some(fraction) => put_fraction(out, at, fraction),
+        None => put_bytes(out, at, b"none"),
     }
 }
 
 // Writes a line with an index.
-pub fn put_index(out: &mut [u8], at: usize, key: &[u8], index: Index) -> usize
+pub fn put_index(out: &mut [u8], at: usize, key: &[u8], index: Option<Fraction>) -> usize
     requires { Proper index × (at + (length key.now + 27) ≤ length out.old) }
     ensures { Fitting out.old out.new at result (text.field key.now (text.index index))
         (length key.now + 27) }
 {
     let value = put_bytes(out, at, key);
     let end = put_value(out, value, index);
-    put_byte(out, end, 10)
+    put_byte(out, end, b'\n')
 }

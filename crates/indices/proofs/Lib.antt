@@ -1,4 +1,4 @@
--- m and g over one taxon more, m beside g, and the cases of CI and RI.
+-- m and g over one taxon more, and m beside g.
 -- Assumes nothing.
 mod Taxa
 pub mod Most

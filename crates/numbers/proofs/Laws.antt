@@ -4,17 +4,18 @@ use mathlib.Core.Path.{◌≡◌, refl, sym, ap, ◌∙◌}
 use mathlib.Core.Logic.{⊎_elim, inl, inr, ◌⊎◌}
 use mathlib.Core.List.{List, [], ◌∷◌}
 use mathlib.Core.Bool.{Bool, true, false, cond}
-use Prim.Native.Nat.{ℕ, suc, ◌+◌, ◌*◌, ◌≤◌, ◌<◌}
+use Prim.Native.Nat.{ℕ, suc, ◌+◌, ◌-◌, ◌*◌, ◌≤◌, ◌<◌}
 use native.Mathlib.Omega.{arith}
-use native.Mathlib.Nat.{add-zero}
 use native.Mathlib.Numerals.{add-one}
-use borrow.Author.Tests.{ltb-true, ltb-false, lt-ltb, le-ltb, le-leb, lt-leb, eq-eqb, ne_eqb, eqb-true}
-use lib.Dec.{eqb, leb, ltb}
+use borrow.Author.Tests.{ltb-true, ltb-false, lt-ltb, le-ltb, eq-eqb, ne_eqb, eqb-true}
+use lib.Dec.{eqb, ltb}
 use lib.ListN.{length, get_or, drop, drop_of_length-le, get_or-eq_default}
 use lib.Seq.{drop-cons}
+use Rattle.std.specs.Prelude.{Option, Some, None, option_and_then}
+use Rattle.std.specs.Option.{option_map_or}
+use Rattle.std.proofs.lemmas.Option.{same_Some, option_and_then_some}
 use Rattle.numbers.specs.declared.Parsed.{Parsed}
-use Rattle.numbers.specs.declared.Parsed.TheVariants.{Value, Bad}
-use Rattle.numbers.specs.Numbers.{digit_of, digits_from, number_from, number_at, ended, item_at, starts_at}
+use Rattle.numbers.specs.Numbers.{digit_of, parsed, digits_from, number_from, number_at, ended, item_at, starts_at}
 
 pub cases : (t : Bool) → (t ≡ true) ⊎ (t ≡ false)
 cases true = inl refl
@@ -23,60 +24,92 @@ cases false = inr refl
 pub below_or : (a b : ℕ) → (a < b) ⊎ (b ≤ a)
 below_or a b = ⊎_elim (λ e. inl (ltb-true a b e)) (λ e. inr (ltb-false a b e)) (cases (ltb a b))
 
--- a digit stands within the text
-pub digit_in : (text : List ℕ) (i : ℕ) → digit_of (get_or text i 0) ≤ 9 → i < length text
-unfolding digit_of
-digit_in text i h =
-    ⊎_elim (λ l. l) (λ l. absurd (let z : digit_of 0 ≤ 9 = rw (get_or-eq_default text 0 l) at h in omega arith)) (below_or i (length text))
+-- ---- a digit
 
-pub digits_step :
+pub digit_none : (b : ℕ) → (b < 48) ⊎ (57 < b) → digit_of b ≡ None
+unfolding digit_of
+digit_none b (inl h) = rw (lt-ltb b 48 h)
+digit_none b (inr h) = let g : 48 ≤ b = omega arith in rw (le-ltb b 48 g, lt-ltb 57 b h)
+
+pub digit_some : (b : ℕ) → 48 ≤ b → b ≤ 57 → digit_of b ≡ Some (b - 48)
+unfolding digit_of
+digit_some b h g = rw (le-ltb b 48 h, le-ltb 57 b g)
+
+-- a byte is a digit or none
+pub digit_or : (b : ℕ) → (digit_of b ≡ None) ⊎ ((d : ℕ) × (digit_of b ≡ Some d))
+digit_or b =
+    ⊎_elim (λ l. inl (digit_none b (inl l)))
+    (λ l. ⊎_elim (λ m. inl (digit_none b (inr m))) (λ m. inr (b - 48, digit_some b l m)) (below_or 57 b))
+    (below_or b 48)
+
+-- what a digit says of its byte
+pub digit_back : (b d : ℕ) → digit_of b ≡ Some d → (d ≤ 9) × (b ≡ 48 + d)
+digit_back b d e =
+    ⊎_elim
+    (λ l. absurd (let z : ◌≡◌ {A = Option ℕ} None (Some d) = sym (digit_none b l) ∙ e in cc))
+    (λ (l, m). let z : b - 48 ≡ d = same_Some (b - 48) d (sym (digit_some b l m) ∙ e) in (omega arith, omega arith))
+    within
+  where
+    within : ((b < 48) ⊎ (57 < b)) ⊎ ((48 ≤ b) × (b ≤ 57))
+    within = ⊎_elim (λ l. inl (inl l)) (λ l. ⊎_elim (λ m. inl (inr m)) (λ m. inr (l, m)) (below_or 57 b)) (below_or b 48)
+
+-- a digit stands within the text
+pub digit_in : (text : List ℕ) (i d : ℕ) → digit_of (get_or text i 0) ≡ Some d → i < length text
+digit_in text i d e =
+    ⊎_elim (λ l. l)
+    (λ l. absurd (omega (arith, (digit_back _ d e).1, get_or-eq_default text 0 l)))
+    (below_or i (length text))
+
+-- ---- one step
+
+-- a number that is read has one value, and one position after it
+pub same_parsed : (v i w j : ℕ) → parsed v i ≡ parsed w j → (v ≡ w) × (i ≡ j)
+same_parsed v i w j e =
+    let p = same_Some {A = Parsed} (record { value = v; next = i }) (record { value = w; next = j }) e in
+    (ap (λ q. q.value) p, ap (λ q. q.next) p)
+
+digits_step :
     (v i : ℕ) (text : List ℕ) →
     digits_from v i (drop i text) ≡
-    cond (leb (digit_of (get_or text i 0)) 9)
-    (cond (ltb 65535 (v * 10 + digit_of (get_or text i 0))) Bad (digits_from (v * 10 + digit_of (get_or text i 0)) (i + 1) (drop (i + 1) text)))
-    (Value v i)
+    option_map_or (λ d. cond (ltb 65535 (v * 10 + d)) None (digits_from (v * 10 + d) (i + 1) (drop (i + 1) text)))
+    (digit_of (get_or text i 0)) (parsed v i)
 unfolding digits_from digit_of
 digits_step v i text =
     ⊎_elim (λ l. rw (drop-cons text i 0 l, add-one))
     (λ l. rw (drop_of_length-le text l, get_or-eq_default text 0 l))
     (below_or i (length text))
 
-pub number_step :
+number_step :
     (i : ℕ) (text : List ℕ) →
-    number_from i (drop i text) ≡
-    cond (ltb 9 (digit_of (get_or text i 0))) Bad
-    (cond (eqb (digit_of (get_or text i 0)) 0) (Value 0 (i + 1)) (digits_from (digit_of (get_or text i 0)) (i + 1) (drop (i + 1) text)))
+    number_at text i ≡
+    option_and_then (λ d. cond (eqb d 0) (parsed 0 (i + 1)) (digits_from d (i + 1) (drop (i + 1) text))) (digit_of (get_or text i 0))
 unfolding number_from digit_of
 number_step i text =
     ⊎_elim (λ l. rw (drop-cons text i 0 l, add-one))
     (λ l. rw (drop_of_length-le text l, get_or-eq_default text 0 l))
     (below_or i (length text))
 
--- one step by what the digit d at i is
-module _ (text : List ℕ) (i d : ℕ) (e : d ≡ digit_of (get_or text i 0)) where
-  pub digit_at : d ≤ 9 → i < length text
-  digit_at h = digit_in text i (rw e at h)
+-- one step where no digit stands at i
+module _ (text : List ℕ) (i : ℕ) (e : digit_of (get_or text i 0) ≡ None) where
+  pub number_none : number_at text i ≡ None
+  number_none = rw (number_step i text, e)
 
-  pub number_bad : 9 < d → number_at text i ≡ Bad
-  number_bad h = rw (number_step i text, ← e, lt-ltb 9 d h)
+  pub digits_end : (v : ℕ) → digits_from v i (drop i text) ≡ parsed v i
+  digits_end v = rw (digits_step v i text, e)
 
-  pub number-zero : d ≤ 9 → d ≡ 0 → number_at text i ≡ Value 0 (i + 1)
-  number-zero h z = rw (number_step i text, ← e, le-ltb 9 d h, z)
+-- one step by the digit d at i
+module _ (text : List ℕ) (i d : ℕ) (e : digit_of (get_or text i 0) ≡ Some d) where
+  pub number-zero : d ≡ 0 → number_at text i ≡ parsed 0 (i + 1)
+  number-zero z = rw (number_step i text, e, z)
 
-  pub number_more : d ≤ 9 → (d ≡ 0 → ⊥) → number_at text i ≡ digits_from d (i + 1) (drop (i + 1) text)
-  number_more h z = rw (number_step i text, ← e, le-ltb 9 d h, ne_eqb d 0 z)
+  pub number_more : (d ≡ 0 → ⊥) → number_at text i ≡ digits_from d (i + 1) (drop (i + 1) text)
+  number_more z = rw (number_step i text, e, ne_eqb d 0 z)
 
-  pub digits_end : (v : ℕ) → 9 < d → digits_from v i (drop i text) ≡ Value v i
-  digits_end v h = rw (digits_step v i text, ← e, lt-leb d 9 h)
+  pub digits_over : (v : ℕ) → 65535 < v * 10 + d → digits_from v i (drop i text) ≡ None
+  digits_over v g = rw (digits_step v i text, e, lt-ltb 65535 (v * 10 + d) g)
 
-  pub digits_over : (v : ℕ) → d ≤ 9 → 65535 < v * 10 + d → digits_from v i (drop i text) ≡ Bad
-  digits_over v h g = rw (digits_step v i text, ← e, le-leb d 9 h, lt-ltb 65535 (v * 10 + d) g)
-
-  pub digits_more : (v : ℕ) → d ≤ 9 → v * 10 + d ≤ 65535 → digits_from v i (drop i text) ≡ digits_from (v * 10 + d) (i + 1) (drop (i + 1) text)
-  digits_more v h g = rw (digits_step v i text, ← e, le-leb d 9 h, le-ltb 65535 (v * 10 + d) g)
-
-pub starts_none : (text : List ℕ) (at : ℕ) (key : List ℕ) → starts_at text at key ≡ starts_at text (at + 0) key
-starts_none text at key = rw add-zero
+  pub digits_more : (v : ℕ) → v * 10 + d ≤ 65535 → digits_from v i (drop i text) ≡ digits_from (v * 10 + d) (i + 1) (drop (i + 1) text)
+  digits_more v g = rw (digits_step v i text, e, le-ltb 65535 (v * 10 + d) g)
 
 pub starts_other : (text : List ℕ) (at : ℕ) (key : List ℕ) (j : ℕ) → j < length key → (get_or text (at + j) 0 ≡ get_or key j 0 → ⊥) → starts_at text
     (at + j) (drop j key) ≡ false
@@ -98,96 +131,70 @@ byte_in text i b p e =
     ⊎_elim (λ l. l) (λ l. absurd (let z : 0 ≡ b = sym (get_or-eq_default text 0 l) ∙ e in omega arith)) (below_or i (length text))
 
 module _ (text : List ℕ) (at end : ℕ) where
-  pub item_bad : number_at text at ≡ Bad → Bad ≡ item_at text end at
+  pub item_none : number_at text at ≡ None → item_at text end at ≡ None
   unfolding ended
-  item_bad e = rw e
+  item_none e = rw e
 
-  pub item_ended : (v next : ℕ) → number_at text at ≡ Value v next → get_or text next 0 ≡ end → Value v (next + 1) ≡ item_at text end at
+  pub item_ended : (v next : ℕ) → number_at text at ≡ parsed v next → get_or text next 0 ≡ end → item_at text end at ≡ parsed v (next + 1)
   unfolding ended
   item_ended v next e g = rw (e, eq-eqb _ _ g)
 
-  pub item_open : (v next : ℕ) → number_at text at ≡ Value v next → (get_or text next 0 ≡ end → ⊥) → Bad ≡ item_at text end at
+  pub item_open : (v next : ℕ) → number_at text at ≡ parsed v next → (get_or text next 0 ≡ end → ⊥) → item_at text end at ≡ None
   unfolding ended
   item_open v next e g = rw (e, ne_eqb _ _ g)
 
--- how far a number reaches
+-- ---- how far a number reaches, and that it is below 65536
 
-digits_case : (p q : Bool) (v i w n : ℕ) (rest : Parsed) → (rest ≡ Value w n → i + 1 ≤ n) → cond p (cond q Bad rest) (Value v i) ≡ Value w n → i ≤ n
-digits_case true true v i w n rest f e = let z : ◌≡◌ {A = ℕ} 0 1 = cc in omega arith
-digits_case true false v i w n rest f e = omega (arith, f e)
-digits_case false q v i w n rest f e = let z : i ≡ n = cc in omega arith
+-- what a step says of a number that was read
+digits_case : (o : Option ℕ) (v i w n : ℕ) (rest : ℕ → Option Parsed) → v ≤ 65535
+    → ((d : ℕ) → v * 10 + d ≤ 65535 → rest d ≡ parsed w n → (i + 1 ≤ n) × (w ≤ 65535))
+    → option_map_or (λ d. cond (ltb 65535 (v * 10 + d)) None (rest d)) o (parsed v i) ≡ parsed w n → (i ≤ n) × (w ≤ 65535)
+digits_case None v i w n rest h f e = let z = same_parsed v i w n e in (omega arith, omega arith)
+digits_case (Some d) v i w n rest h f e = go (below_or 65535 (v * 10 + d))
+  where
+    go : (65535 < v * 10 + d) ⊎ (v * 10 + d ≤ 65535) → (i ≤ n) × (w ≤ 65535)
+    go (inl l) = absurd (let g : ◌≡◌ {A = Option Parsed} None (parsed w n) = rw (lt-ltb 65535 (v * 10 + d) l) at e in cc)
+    go (inr l) = let r = f d l (rw (le-ltb 65535 (v * 10 + d) l) at e) in (omega arith, r.1)
 
-pub digits_grow : (v i : ℕ) (l : List ℕ) (w n : ℕ) → digits_from v i l ≡ Value w n → i ≤ n
+pub digits_reach : (v i : ℕ) (l : List ℕ) (w n : ℕ) → v ≤ 65535 → digits_from v i l ≡ parsed w n → (i ≤ n) × (w ≤ 65535)
 unfolding digits_from
-digits_grow v i [] w n e = let z : i ≡ n = cc in omega arith
-digits_grow v i (b ∷ bs) w n e =
-    digits_case (leb (digit_of b) 9) (ltb 65535 (v * 10 + digit_of b)) v i w n _ (λ g. digits_grow (v * 10 + digit_of b) (i + 1) bs w n g) e
+digits_reach v i [] w n h e = let z = same_parsed v i w n e in (omega arith, omega arith)
+digits_reach v i (b ∷ bs) w n h e =
+    digits_case (digit_of b) v i w n (λ d. digits_from (v * 10 + d) (i + 1) bs) h (λ d k g. digits_reach (v * 10 + d) (i + 1) bs w n k g) e
 
-number_case : (p q : Bool) (i w n : ℕ) (rest : Parsed) → (rest ≡ Value w n → i + 1 ≤ n) → cond p Bad (cond q (Value 0 (i + 1)) rest) ≡ Value w n → i +
-    1 ≤ n
-number_case true q i w n rest f e = let z : ◌≡◌ {A = ℕ} 0 1 = cc in omega arith
-number_case false true i w n rest f e = let z : i + 1 ≡ n = cc in omega arith
-number_case false false i w n rest f e = f e
+number_case : (q : Bool) (d i w n : ℕ) (bs : List ℕ) → d ≤ 9 → cond q (parsed 0 (i + 1)) (digits_from d (i + 1) bs) ≡ parsed w n
+    → (i + 1 ≤ n) × (w ≤ 65535)
+number_case true d i w n bs h e = let z = same_parsed 0 (i + 1) w n e in (omega arith, omega arith)
+number_case false d i w n bs h e = digits_reach d (i + 1) bs w n (omega arith) e
 
-pub number_grow : (i : ℕ) (l : List ℕ) (w n : ℕ) → number_from i l ≡ Value w n → i + 1 ≤ n
+pub number_reach : (i : ℕ) (l : List ℕ) (w n : ℕ) → number_from i l ≡ parsed w n → (i + 1 ≤ n) × (w ≤ 65535)
 unfolding number_from
-number_grow i [] w n e = let z : ◌≡◌ {A = ℕ} 0 1 = cc in omega arith
-number_grow i (b ∷ bs) w n e = number_case (ltb 9 (digit_of b)) (eqb (digit_of b) 0) i w n _ (λ g. digits_grow (digit_of b) (i + 1) bs w n g) e
+number_reach i [] w n e = absurd (let z : ◌≡◌ {A = Option Parsed} None (parsed w n) = e in cc)
+number_reach i (b ∷ bs) w n e =
+    option_and_then_some (λ d. cond (eqb d 0) (parsed 0 (i + 1)) (digits_from d (i + 1) bs)) (digit_of b) (record { value = w; next = n }) e
+    (λ d f g. number_case (eqb d 0) d i w n bs (digit_back b d f).0 g)
 
-pub item_case : (p : Bool) (v m w n : ℕ) → cond p (Value v (m + 1)) Bad ≡ Value w n → (p ≡ true) × (v ≡ w) × (m + 1 ≡ n)
-item_case true v m w n e = (refl, (cc), (cc))
-item_case false v m w n e = absurd (let z : ◌≡◌ {A = ℕ} 0 1 = cc in omega arith)
-
-item_of : (text : List ℕ) (end i : ℕ) (got : Parsed) (w n : ℕ) → 0 < end → ((v m : ℕ) → got ≡ Value v m → i + 1 ≤ m) → ended text end got ≡ Value w n
-    → (i + 2 ≤ n) × (n ≤ length text)
+-- an item that is read: its number, and the byte after it
+pub item_parts : (text : List ℕ) (end i w n : ℕ) → item_at text end i ≡ parsed w n
+    → (m : ℕ) × (number_at text i ≡ parsed w m) × (get_or text m 0 ≡ end) × (m + 1 ≡ n)
 unfolding ended
-item_of text end i Bad w n p f e = absurd (let z : ◌≡◌ {A = ℕ} 0 1 = cc in omega arith)
-item_of text end i (Value v m) w n p f e =
-    let parts = item_case (eqb (get_or text m 0) end) v m w n e in
-    let inside : m < length text = byte_in text m end p (eqb-true (get_or text m 0) end parts.0) in
-    (omega (arith, f v m refl, parts.2), omega (arith, inside, parts.2))
+item_parts text end i w n e =
+    option_and_then_some (λ p. cond (eqb (get_or text p.next 0) end) (parsed p.value (p.next + 1)) None) (number_at text i)
+    (record { value = w; next = n }) e (λ p f g. go p f (cases (eqb (get_or text p.next 0) end)) g)
+  where
+    go : (p : Parsed) → number_at text i ≡ Some p → (eqb (get_or text p.next 0) end ≡ true) ⊎ (eqb (get_or text p.next 0) end ≡ false)
+        → cond (eqb (get_or text p.next 0) end) (parsed p.value (p.next + 1)) None ≡ parsed w n
+        → (m : ℕ) × (number_at text i ≡ parsed w m) × (get_or text m 0 ≡ end) × (m + 1 ≡ n)
+    go p f (inl t) g =
+        let (a, b) = same_parsed p.value (p.next + 1) w n (rw t at g) in
+        (p.next, f ∙ ap (λ (v : ℕ). parsed v p.next) a, eqb-true _ _ t, b)
+    go p f (inr t) g = absurd (let z : ◌≡◌ {A = Option Parsed} None (parsed w n) = rw t at g in cc)
 
 -- an item takes two bytes or more, all within the text
-pub item_long : (text : List ℕ) (end i w n : ℕ) → 0 < end → item_at text end i ≡ Value w n → (i + 2 ≤ n) × (n ≤ length text)
-item_long text end i w n p e = item_of text end i (number_at text i) w n p (λ v m g. number_grow i (drop i text) v m g) e
+pub item_long : (text : List ℕ) (end i w n : ℕ) → 0 < end → item_at text end i ≡ parsed w n → (i + 2 ≤ n) × (n ≤ length text)
+item_long text end i w n p e =
+    let (m, f, here, next) = item_parts text end i w n e in
+    (omega (arith, (number_reach i (drop i text) w m f).0), omega (arith, byte_in text m end p here))
 
--- ---- a number is below 65536
-
-digits_fit_case : (p : Bool) (b v i w n : ℕ) (rest : Parsed) → v ≤ 65535 → (b ≤ 65535 → rest ≡ Value w n → w ≤ 65535)
-    → cond p (cond (ltb 65535 b) Bad rest) (Value v i) ≡ Value w n → w ≤ 65535
-digits_fit_case true b v i w n rest h f e = go (below_or 65535 b)
-  where
-    go : (65535 < b) ⊎ (b ≤ 65535) → w ≤ 65535
-    go (inl l) = absurd (let g : Bad ≡ Value w n = rw (lt-ltb 65535 b l) at e in let z : ◌≡◌ {A = ℕ} 0 1 = cc in omega arith)
-    go (inr l) = f l (rw (le-ltb 65535 b l) at e)
-digits_fit_case false b v i w n rest h f e = let z : v ≡ w = cc in omega arith
-
-digits_fit : (v i : ℕ) (l : List ℕ) (w n : ℕ) → v ≤ 65535 → digits_from v i l ≡ Value w n → w ≤ 65535
-unfolding digits_from
-digits_fit v i [] w n h e = let z : v ≡ w = cc in omega arith
-digits_fit v i (b ∷ bs) w n h e =
-    digits_fit_case (leb (digit_of b) 9) (v * 10 + digit_of b) v i w n _ h (λ k g. digits_fit (v * 10 + digit_of b) (i + 1) bs w n k g) e
-
-number_fit_case : (q : Bool) (d i w n : ℕ) (rest : Parsed) → (d ≤ 9 → rest ≡ Value w n → w ≤ 65535)
-    → cond (ltb 9 d) Bad (cond q (Value 0 (i + 1)) rest) ≡ Value w n → w ≤ 65535
-number_fit_case q d i w n rest f e = go q (below_or 9 d) e
-  where
-    go : (q : Bool) → (9 < d) ⊎ (d ≤ 9) → cond (ltb 9 d) Bad (cond q (Value 0 (i + 1)) rest) ≡ Value w n → w ≤ 65535
-    go q (inl l) g = absurd (let k : Bad ≡ Value w n = rw (lt-ltb 9 d l) at g in let z : ◌≡◌ {A = ℕ} 0 1 = cc in omega arith)
-    go true (inr l) g = let k : Value 0 (i + 1) ≡ Value w n = rw (le-ltb 9 d l) at g in let z : 0 ≡ w = cc in omega arith
-    go false (inr l) g = f l (rw (le-ltb 9 d l) at g)
-
-number_fit : (i : ℕ) (l : List ℕ) (w n : ℕ) → number_from i l ≡ Value w n → w ≤ 65535
-unfolding number_from
-number_fit i [] w n e = let z : ◌≡◌ {A = ℕ} 0 1 = cc in omega arith
-number_fit i (b ∷ bs) w n e =
-    number_fit_case (eqb (digit_of b) 0) (digit_of b) i w n _ (λ k g. digits_fit (digit_of b) (i + 1) bs w n (omega arith) g) e
-
-item_fit_of : (text : List ℕ) (end : ℕ) (got : Parsed) (w n : ℕ) → ((v m : ℕ) → got ≡ Value v m → v ≤ 65535) → ended text end got ≡ Value w n
-    → w ≤ 65535
-unfolding ended
-item_fit_of text end Bad w n f e = let z : ◌≡◌ {A = ℕ} 0 1 = cc in omega arith
-item_fit_of text end (Value v m) w n f e = omega (arith, f v m refl, (item_case (eqb (get_or text m 0) end) v m w n e).1)
-
-pub item_fit : (text : List ℕ) (end i w n : ℕ) → item_at text end i ≡ Value w n → w ≤ 65535
-item_fit text end i w n e = item_fit_of text end (number_at text i) w n (λ v m g. number_fit i (drop i text) v m g) e
+pub item_fit : (text : List ℕ) (end i w n : ℕ) → item_at text end i ≡ parsed w n → w ≤ 65535
+item_fit text end i w n e = let (m, f, here, next) = item_parts text end i w n e in (number_reach i (drop i text) w m f).1

@@ -6,21 +6,19 @@ use mathlib.Core.List.{List, [], ◌∷◌, ◌++◌, append_assoc}
 use mathlib.Core.Bool.{Bool, true, false, ◌&&◌}
 use Prim.Native.Nat.{ℕ, zero, suc, ◌+◌, ◌-◌, ◌*◌, ◌/◌, ◌%◌, ◌≤◌, ◌<◌}
 use native.Mathlib.Omega.{arith}
-use borrow.Author.Tests.{ltb-true, lt-ltb, le-ltb, le-leb, lt-leb, eq-eqb, ne_eqb, eqb-true}
+use borrow.Author.Tests.{ltb-true, lt-ltb, le-ltb, eq-eqb, ne_eqb, eqb-true}
 use lib.Dec.{eqb, ltb}
 use lib.ListN.{length, drop, get_or, length-append}
-use Rattle.numbers.specs.declared.Parsed.{Parsed}
-use Rattle.numbers.specs.declared.Parsed.TheVariants.{Value, Bad}
-use Rattle.numbers.specs.Numbers.{digit_of, digits_from, number_from, number_at, ended, item_at, starts_at}
+use Rattle.std.specs.Prelude.{Some, None}
+use Rattle.numbers.specs.Numbers.{digit_of, parsed, digits_from, number_from, number_at, ended, item_at, starts_at}
 use Rattle.numbers.specs.Printed.{decimal_of, decimal}
 use lib.Seq.{append_snoc, drop-drop, drop-cons, drop-append_seam, get_or-drop, get_or-append_seam}
 use native.Mathlib.Nat.{add-zero}
 use native.Mathlib.Numerals.{add-one}
-use Rattle.numbers.proofs.Laws.{below_or, digits_grow, number_grow, item_case, byte_in}
+use Rattle.numbers.proofs.Laws.{below_or, digit_or, digit_some, digit_back, same_parsed, digits_reach, number_reach, item_parts, byte_in}
 
-pub digit-of : (d : ℕ) → d ≤ 9 → digit_of (48 + d) ≡ d
-unfolding digit_of
-digit-of d h = rw (le-ltb (48 + d) 48 (omega arith), le-ltb 57 (48 + d) (omega arith)) (omega arith)
+pub digit-of : (d : ℕ) → d ≤ 9 → digit_of (48 + d) ≡ Some d
+digit-of d h = digit_some (48 + d) (omega arith) (omega arith) ∙ ap Some (omega arith)
 
 pub few_digits : (most n : ℕ) → n < 10 → decimal_of most n ≡ (48 + n) ∷ []
 unfolding decimal_of
@@ -33,11 +31,11 @@ more_digits most n h = rw (le-ltb n 10 h)
 
 digits_digit : (v i d : ℕ) (s : List ℕ) → d ≤ 9 → v * 10 + d ≤ 65535 → digits_from v i ((48 + d) ∷ s) ≡ digits_from (v * 10 + d) (i + 1) s
 unfolding digits_from
-digits_digit v i d s h g = rw (digit-of d h, le-leb d 9 h, le-ltb 65535 (v * 10 + d) g)
+digits_digit v i d s h g = rw (digit-of d h, le-ltb 65535 (v * 10 + d) g)
 
 number_digit : (i d : ℕ) (s : List ℕ) → d ≤ 9 → 0 < d → number_from i ((48 + d) ∷ s) ≡ digits_from d (i + 1) s
 unfolding number_from
-number_digit i d s h g = rw (digit-of d h, le-ltb 9 d h, ne_eqb d 0 (λ e. omega arith))
+number_digit i d s h g = rw (digit-of d h, ne_eqb d 0 (λ e. omega arith))
 
 -- one digit more, after a part that reads as `digits_from`
 read_one :
@@ -76,19 +74,19 @@ read_most (suc most) n i s m p h =
 -- no digit stands at the front
 pub data Stop : List ℕ → Type 0 where
   over : Stop []
-  other : {b : ℕ} {s : List ℕ} → 9 < digit_of b → Stop (b ∷ s)
+  other : {b : ℕ} {s : List ℕ} → digit_of b ≡ None → Stop (b ∷ s)
 
-digits_stop : (v i : ℕ) (s : List ℕ) → Stop s → digits_from v i s ≡ Value v i
+digits_stop : (v i : ℕ) (s : List ℕ) → Stop s → digits_from v i s ≡ parsed v i
 unfolding digits_from
 digits_stop v i [] over = refl
-digits_stop v i (b ∷ s) (other h) = rw (lt-leb (digit_of b) 9 h)
+digits_stop v i (b ∷ s) (other h) = rw h
 
-zero_read : (i : ℕ) (s : List ℕ) → number_from i (48 ∷ s) ≡ Value 0 (i + 1)
+zero_read : (i : ℕ) (s : List ℕ) → number_from i (48 ∷ s) ≡ parsed 0 (i + 1)
 unfolding number_from digit_of
 zero_read i s = refl
 
 -- what is written is read
-pub read_decimal : (n i : ℕ) (s : List ℕ) → n ≤ 65535 → Stop s → number_from i (decimal n ++ s) ≡ Value n (i + length (decimal n))
+pub read_decimal : (n i : ℕ) (s : List ℕ) → n ≤ 65535 → Stop s → number_from i (decimal n ++ s) ≡ parsed n (i + length (decimal n))
 unfolding decimal_of
 read_decimal zero i s h e = zero_read i s
 read_decimal (suc n) i s h e =
@@ -126,112 +124,103 @@ decimal-more v d p h =
     ∙ ap (λ (m : ℕ). decimal_of n v ++ ((48 + m) ∷ [])) rest
     ∙ ap (λ (l : List ℕ). l ++ ((48 + d) ∷ [])) (decimal_fuel n v v up own)
 
-pub digit_back : (b : ℕ) → digit_of b ≤ 9 → b ≡ 48 + digit_of b
-unfolding digit_of
-digit_back b h =
-    ⊎_elim
-    (λ l. absurd (let z : 10 ≤ 9 = rw (lt-ltb b 48 l) at h in omega arith))
-    (λ l.
-    ⊎_elim
-    (λ m. absurd (let z : 10 ≤ 9 = rw (le-ltb b 48 l, lt-ltb 57 b m) at h in omega arith))
-    (λ m. rw (le-ltb b 48 l, le-ltb 57 b m) (omega arith))
-    (below_or 57 b))
-    (below_or b 48)
-
 module _ (v i b : ℕ) (bs : List ℕ) where
-  step_stop : 9 < digit_of b → digits_from v i (b ∷ bs) ≡ Value v i
+  step_stop : digit_of b ≡ None → digits_from v i (b ∷ bs) ≡ parsed v i
   unfolding digits_from
-  step_stop h = rw (lt-leb (digit_of b) 9 h)
+  step_stop e = rw e
 
-  step-over : digit_of b ≤ 9 → 65535 < v * 10 + digit_of b → digits_from v i (b ∷ bs) ≡ Bad
+  step-over : (d : ℕ) → digit_of b ≡ Some d → 65535 < v * 10 + d → digits_from v i (b ∷ bs) ≡ None
   unfolding digits_from
-  step-over h g = rw (le-leb (digit_of b) 9 h, lt-ltb 65535 (v * 10 + digit_of b) g)
+  step-over d e g = rw (e, lt-ltb 65535 (v * 10 + d) g)
 
-  step-on : digit_of b ≤ 9 → v * 10 + digit_of b ≤ 65535 → digits_from v i (b ∷ bs) ≡ digits_from (v * 10 + digit_of b) (i + 1) bs
+  step-on : (d : ℕ) → digit_of b ≡ Some d → v * 10 + d ≤ 65535 → digits_from v i (b ∷ bs) ≡ digits_from (v * 10 + d) (i + 1) bs
   unfolding digits_from
-  step-on h g = rw (le-leb (digit_of b) 9 h, le-ltb 65535 (v * 10 + digit_of b) g)
+  step-on d e g = rw (e, le-ltb 65535 (v * 10 + d) g)
 
 -- the digit b after v, and then bs
-moved : (v b : ℕ) (bs : List ℕ) → 0 < v → digit_of b ≤ 9 → decimal v ++ b ∷ bs ≡ decimal (v * 10 + digit_of b) ++ bs
-moved v b bs p h =
+moved : (v b d : ℕ) (bs : List ℕ) → 0 < v → digit_of b ≡ Some d → decimal v ++ b ∷ bs ≡ decimal (v * 10 + d) ++ bs
+moved v b d bs p e =
+    let (low, byte) = digit_back b d e in
     sym (append_snoc (decimal v) b bs)
-    ∙ ap (λ (c : ℕ). decimal v ++ (c ∷ []) ++ bs) (digit_back b h)
-    ∙ ap (λ (l : List ℕ). l ++ bs) (sym (decimal-more v (digit_of b) p h))
+    ∙ ap (λ (c : ℕ). decimal v ++ (c ∷ []) ++ bs) byte
+    ∙ ap (λ (l : List ℕ). l ++ bs) (sym (decimal-more v d p low))
 
 drop-on : (i next b : ℕ) (bs : List ℕ) → i + 1 ≤ next → drop (next - (i + 1)) bs ≡ drop (next - i) (b ∷ bs)
 drop-on i next b bs h =
     let e : suc (next - (i + 1)) ≡ next - i = omega arith in
     ap (λ (m : ℕ). drop m (b ∷ bs)) e
 
-ends : (v i n next : ℕ) (l : List ℕ) → Value v i ≡ Value n next → decimal v ++ l ≡ decimal n ++ drop (next - i) l
+ends : (v i n next : ℕ) (l : List ℕ) → parsed v i ≡ parsed n next → decimal v ++ l ≡ decimal n ++ drop (next - i) l
 ends v i n next l e =
-    let a : v ≡ n = cc in
-    let b : i ≡ next = cc in
+    let (a, b) = same_parsed v i n next e in
     let z : 0 ≡ next - i = omega arith in
     ap (λ (m : ℕ). decimal m ++ l) a ∙ ap (λ (m : ℕ). decimal n ++ drop m l) z
 
-digits_back : (v i : ℕ) (l : List ℕ) (n next : ℕ) → 0 < v → digits_from v i l ≡ Value n next → decimal v ++ l ≡ decimal n ++ drop (next - i) l
+-- nothing that is read is none
+none_read : {P : Type 0} (n next : ℕ) → None ≡ parsed n next → P
+none_read n next e = absurd cc
+
+digits_back : (v i : ℕ) (l : List ℕ) (n next : ℕ) → 0 < v → v ≤ 65535 → digits_from v i l ≡ parsed n next → decimal v ++ l ≡ decimal n ++ drop (next - i) l
 unfolding digits_from
-digits_back v i [] n next p e = ends v i n next [] e
-digits_back v i (b ∷ bs) n next p e =
+digits_back v i [] n next p h e = ends v i n next [] e
+digits_back v i (b ∷ bs) n next p h e =
     ⊎_elim
     (λ stop. ends v i n next (b ∷ bs) (sym (step_stop v i b bs stop) ∙ e))
-    (λ digit.
+    (λ (d, digit).
     ⊎_elim
-    (λ big. absurd (let f : Bad ≡ Value n next = sym (step-over v i b bs digit big) ∙ e in let z : ◌≡◌ {A = ℕ} 0 1 = cc in omega arith))
+    (λ big. none_read n next (sym (step-over v i b bs d digit big) ∙ e))
     (λ fits.
-    let f : digits_from (v * 10 + digit_of b) (i + 1) bs ≡ Value n next = sym (step-on v i b bs digit fits) ∙ e in
-    let q : 0 < v * 10 + digit_of b = omega arith in
-    let far : i + 1 ≤ next = digits_grow (v * 10 + digit_of b) (i + 1) bs n next f in
-    moved v b bs p digit
-    ∙ digits_back (v * 10 + digit_of b) (i + 1) bs n next q f
+    let f : digits_from (v * 10 + d) (i + 1) bs ≡ parsed n next = sym (step-on v i b bs d digit fits) ∙ e in
+    let q : 0 < v * 10 + d = omega arith in
+    let far : i + 1 ≤ next = (digits_reach (v * 10 + d) (i + 1) bs n next fits f).0 in
+    moved v b d bs p digit
+    ∙ digits_back (v * 10 + d) (i + 1) bs n next q fits f
     ∙ ap (λ (l : List ℕ). decimal n ++ l) (drop-on i next b bs far))
-    (below_or 65535 (v * 10 + digit_of b)))
-    (below_or 9 (digit_of b))
+    (below_or 65535 (v * 10 + d)))
+    (digit_or b)
 
 module _ (i b : ℕ) (bs : List ℕ) where
-  first_bad : 9 < digit_of b → number_from i (b ∷ bs) ≡ Bad
+  first_none : digit_of b ≡ None → number_from i (b ∷ bs) ≡ None
   unfolding number_from
-  first_bad h = rw (lt-ltb 9 (digit_of b) h)
+  first_none e = rw e
 
-  first-zero : digit_of b ≡ 0 → number_from i (b ∷ bs) ≡ Value 0 (i + 1)
+  first-zero : digit_of b ≡ Some 0 → number_from i (b ∷ bs) ≡ parsed 0 (i + 1)
   unfolding number_from
-  first-zero h = rw h
+  first-zero e = rw e
 
-  first_more : digit_of b ≤ 9 → 0 < digit_of b → number_from i (b ∷ bs) ≡ digits_from (digit_of b) (i + 1) bs
+  first_more : (d : ℕ) → digit_of b ≡ Some d → 0 < d → number_from i (b ∷ bs) ≡ digits_from d (i + 1) bs
   unfolding number_from
-  first_more h g = rw (le-ltb 9 (digit_of b) h, ne_eqb (digit_of b) 0 (λ e. omega arith))
+  first_more d e g = rw (e, ne_eqb d 0 (λ z. omega arith))
 
-number_back : (i : ℕ) (l : List ℕ) (n next : ℕ) → number_from i l ≡ Value n next → l ≡ decimal n ++ drop (next - i) l
+number_back : (i : ℕ) (l : List ℕ) (n next : ℕ) → number_from i l ≡ parsed n next → l ≡ decimal n ++ drop (next - i) l
 unfolding number_from decimal_of
-number_back i [] n next e = absurd (let z : ◌≡◌ {A = ℕ} 0 1 = cc in omega arith)
+number_back i [] n next e = none_read n next e
 number_back i (b ∷ bs) n next e =
     ⊎_elim
-    (λ stop. absurd (let f : Bad ≡ Value n next = sym (first_bad i b bs stop) ∙ e in let z : ◌≡◌ {A = ℕ} 0 1 = cc in omega arith))
-    (λ digit.
+    (λ stop. none_read n next (sym (first_none i b bs stop) ∙ e))
+    (λ (d, digit).
+    let (low, byte) = digit_back b d digit in
     ⊎_elim
     (λ some.
-    let f : digits_from (digit_of b) (i + 1) bs ≡ Value n next = sym (first_more i b bs digit some) ∙ e in
-    let far : i + 1 ≤ next = digits_grow (digit_of b) (i + 1) bs n next f in
-    let low : digit_of b < 10 = omega arith in
-    ap (λ (c : ℕ). c ∷ bs) (digit_back b digit)
-    ∙ ap (λ (l : List ℕ). l ++ bs) (sym (few_digits (digit_of b) (digit_of b) low))
-    ∙ digits_back (digit_of b) (i + 1) bs n next some f
+    let f : digits_from d (i + 1) bs ≡ parsed n next = sym (first_more i b bs d digit some) ∙ e in
+    let far : i + 1 ≤ next = (digits_reach d (i + 1) bs n next (omega arith) f).0 in
+    ap (λ (c : ℕ). c ∷ bs) byte
+    ∙ ap (λ (l : List ℕ). l ++ bs) (sym (few_digits d d (omega arith)))
+    ∙ digits_back d (i + 1) bs n next some (omega arith) f
     ∙ ap (λ (l : List ℕ). decimal n ++ l) (drop-on i next b bs far))
     (λ none.
-    let zero_digit : digit_of b ≡ 0 = omega arith in
-    let f : Value 0 (i + 1) ≡ Value n next = sym (first-zero i b bs zero_digit) ∙ e in
-    let byte : b ≡ 48 = digit_back b digit ∙ ap (λ (d : ℕ). 48 + d) zero_digit in
-    let z : 0 ≡ n = cc in
-    let k : suc 0 ≡ next - i = let same : i + 1 ≡ next = cc in omega arith in
-    ap (λ (c : ℕ). c ∷ bs) byte ∙ ap (λ (m : ℕ). decimal m ++ bs) z ∙ ap (λ (m : ℕ). decimal n ++ drop m (b ∷ bs)) k)
-    (below_or 0 (digit_of b)))
-    (below_or 9 (digit_of b))
+    let zero_digit : d ≡ 0 = omega arith in
+    let (z, same) = same_parsed 0 (i + 1) n next (sym (first-zero i b bs (digit ∙ ap Some zero_digit)) ∙ e) in
+    let here : b ≡ 48 = omega arith in
+    let k : suc 0 ≡ next - i = omega arith in
+    ap (λ (c : ℕ). c ∷ bs) here ∙ ap (λ (m : ℕ). decimal m ++ bs) z ∙ ap (λ (m : ℕ). decimal n ++ drop m (b ∷ bs)) k)
+    (below_or 0 d))
+    (digit_or b)
 
 -- what is read is what was written: the number at i is the decimal digits there
-pub decimal_read : (text : List ℕ) (i n next : ℕ) → number_at text i ≡ Value n next → drop i text ≡ decimal n ++ drop next text
+pub decimal_read : (text : List ℕ) (i n next : ℕ) → number_at text i ≡ parsed n next → drop i text ≡ decimal n ++ drop next text
 decimal_read text i n next e =
-    let far : i + 1 ≤ next = number_grow i (drop i text) n next e in
+    let far : i + 1 ≤ next = (number_reach i (drop i text) n next e).0 in
     let k : i + (next - i) ≡ next = omega arith in
     number_back i (drop i text) n next e
     ∙ ap (λ (l : List ℕ). decimal n ++ l) (drop-drop (next - i) i text ∙ ap (λ (m : ℕ). drop m text) k)
@@ -251,34 +240,25 @@ decimal-one n h = few_digits n n h
 
 -- a number and the byte after it
 
-item_back_of :
-    (text : List ℕ) (end i : ℕ) (got : Parsed) (w n : ℕ) → 0 < end → number_at text i ≡ got → ended text end got ≡ Value w n →
-    drop i text ≡ decimal w ++ end ∷ drop n text
-unfolding ended
-item_back_of text end i Bad w n p g e = absurd (let z : ◌≡◌ {A = ℕ} 0 1 = cc in omega arith)
-item_back_of text end i (Value v m) w n p g e =
-    let parts = item_case (eqb (get_or text m 0) end) v m w n e in
-    let here : get_or text m 0 ≡ end = eqb-true (get_or text m 0) end parts.0 in
+pub item_back : (text : List ℕ) (end i w n : ℕ) → 0 < end → item_at text end i ≡ parsed w n → drop i text ≡ decimal w ++ end ∷ drop n text
+item_back text end i w n p e =
+    let (m, g, here, far) = item_parts text end i w n e in
     let inside : m < length text = byte_in text m end p here in
-    decimal_read text i v m g
-    ∙ ap (λ (l : List ℕ). decimal v ++ l) (drop-cons text m 0 inside)
-    ∙ ap (λ (b : ℕ). decimal v ++ b ∷ drop (suc m) text) here
-    ∙ ap (λ (k : ℕ). decimal v ++ end ∷ drop k text) (sym (add-one m) ∙ parts.2)
-    ∙ ap (λ (u : ℕ). decimal u ++ end ∷ drop n text) parts.1
-
-pub item_back : (text : List ℕ) (end i w n : ℕ) → 0 < end → item_at text end i ≡ Value w n → drop i text ≡ decimal w ++ end ∷ drop n text
-item_back text end i w n p e = item_back_of text end i (number_at text i) w n p refl e
+    decimal_read text i w m g
+    ∙ ap (λ (l : List ℕ). decimal w ++ l) (drop-cons text m 0 inside)
+    ∙ ap (λ (b : ℕ). decimal w ++ b ∷ drop (suc m) text) here
+    ∙ ap (λ (k : ℕ). decimal w ++ end ∷ drop k text) (sym (add-one m) ∙ far)
 
 -- what follows a part
 pub after : (text : List ℕ) (i : ℕ) (l s : List ℕ) → drop i text ≡ l ++ s → drop (i + length l) text ≡ s
 after text i l s e = sym (drop-drop (length l) i text) ∙ ap (drop (length l)) e ∙ drop-append_seam l s
 
 pub item_read :
-    (text : List ℕ) (end i v : ℕ) (s : List ℕ) → v ≤ 65535 → 9 < digit_of end → drop i text ≡ decimal v ++ end ∷ s →
-    item_at text end i ≡ Value v (i + length (decimal v) + 1)
+    (text : List ℕ) (end i v : ℕ) (s : List ℕ) → v ≤ 65535 → digit_of end ≡ None → drop i text ≡ decimal v ++ end ∷ s →
+    item_at text end i ≡ parsed v (i + length (decimal v) + 1)
 unfolding ended
 item_read text end i v s h stop e =
-    let n : number_at text i ≡ Value v (i + length (decimal v)) = ap (number_from i) e ∙ read_decimal v i (end ∷ s) h (other stop) in
+    let n : number_at text i ≡ parsed v (i + length (decimal v)) = ap (number_from i) e ∙ read_decimal v i (end ∷ s) h (other stop) in
     let b : get_or text (i + length (decimal v)) 0 ≡ end = sym (get_or-drop i text (length (decimal v)) 0) ∙ ap
     (λ (l : List ℕ). get_or l (length (decimal v)) 0) e ∙ get_or-append_seam (decimal v) end s 0 in
     rw (n, eq-eqb _ _ b)

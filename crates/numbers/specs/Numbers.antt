@@ -1,39 +1,39 @@
 -- Numbers and keys in a text. A text is a list of bytes, and a position counts its bytes from 0; a byte past the end counts as 0.
 -- How a number is written is in Printed.antt, and that reading and writing undo each other in proofs/Round.antt.
 -- Assumes nothing.
-use Rattle.std.specs.Prelude.{List, [], ◌∷◌, Bool, true, cond, ◌&&◌, ℕ, ◌+◌, ◌-◌, ◌*◌, eqb, leb, ltb, get_or, drop}
+use Rattle.std.specs.Prelude.{List, [], ◌∷◌, Bool, true, cond, ◌&&◌, ℕ, ◌+◌, ◌-◌, ◌*◌, eqb, ltb, get_or, drop, Option, Some, None, option_and_then}
+use Rattle.std.specs.Option.{option_map_or}
 use Rattle.numbers.specs.declared.Parsed.{Parsed}
-use Rattle.numbers.specs.declared.Parsed.TheVariants.{Value, Bad}
 
--- the value of a digit; 10 for a byte that is none
-unfoldable pub digit_of : ℕ → ℕ
-digit_of b = cond (ltb b 48) 10 (cond (ltb 57 b) 10 (b - 48))
+-- the value of a digit; none for another byte
+unfoldable pub digit_of : ℕ → Option ℕ
+digit_of b = cond (ltb b 48) None (cond (ltb 57 b) None (Some (b - 48)))
+
+-- the number v, and i the position after it
+abbrev pub parsed : ℕ → ℕ → Option Parsed
+parsed v i = Some (record { value = v; next = i })
 
 -- the digits of the list are read on after the value v, up to the first byte that is no digit; i is the position of the list
-unfoldable pub digits_from : ℕ → ℕ → List ℕ → Parsed
-digits_from v i [] = Value v i
+unfoldable pub digits_from : ℕ → ℕ → List ℕ → Option Parsed
+digits_from v i [] = parsed v i
 digits_from v i (b ∷ bs) =
-    let more = v * 10 + digit_of b in
-    cond (leb (digit_of b) 9) (cond (ltb 65535 more) Bad (digits_from more (i + 1) bs)) (Value v i)
+    option_map_or (λ d. cond (ltb 65535 (v * 10 + d)) None (digits_from (v * 10 + d) (i + 1) bs)) (digit_of b) (parsed v i)
 
 -- a number: 0 alone, or digits of which the first is not 0
-unfoldable pub number_from : ℕ → List ℕ → Parsed
-number_from i [] = Bad
-number_from i (b ∷ bs) =
-    cond (ltb 9 (digit_of b)) Bad
-    (cond (eqb (digit_of b) 0) (Value 0 (i + 1)) (digits_from (digit_of b) (i + 1) bs))
+unfoldable pub number_from : ℕ → List ℕ → Option Parsed
+number_from i [] = None
+number_from i (b ∷ bs) = option_and_then (λ d. cond (eqb d 0) (parsed 0 (i + 1)) (digits_from d (i + 1) bs)) (digit_of b)
 
 -- a number at a position
-abbrev pub number_at : List ℕ → ℕ → Parsed
+abbrev pub number_at : List ℕ → ℕ → Option Parsed
 number_at text i = number_from i (drop i text)
 
 -- the byte `end` has to follow
-unfoldable pub ended : List ℕ → ℕ → Parsed → Parsed
-ended text end Bad = Bad
-ended text end (Value v next) = cond (eqb (get_or text next 0) end) (Value v (next + 1)) Bad
+unfoldable pub ended : List ℕ → ℕ → Option Parsed → Option Parsed
+ended text end got = option_and_then (λ p. cond (eqb (get_or text p.next 0) end) (parsed p.value (p.next + 1)) None) got
 
 -- a number at a position, with the byte `end` after it
-abbrev pub item_at : List ℕ → ℕ → ℕ → Parsed
+abbrev pub item_at : List ℕ → ℕ → ℕ → Option Parsed
 item_at text end i = ended text end (number_at text i)
 
 -- the bytes of a key stand at a position

@@ -6,73 +6,66 @@ ghost use Rattle.std.specs.Prelude.{◌≡◌, ℕ, ◌+◌, ◌≤◌, ◌<◌,
 ghost use Rattle.numbers.specs.Numbers.{digit_of, number_at, item_at, starts_at};
 
 // A number below 65536 and the position after it.
-#[derive(Clone, Copy)]
-pub enum Parsed {
-    Value(u16, usize),
-    Bad,
+#[derive(Clone, Copy, Debug, PartialEq, Eq)]
+pub struct Parsed {
+    pub value: u16,
+    pub next: usize,
 }
 
 // The byte at `at`, or 0 past the end.
 pub fn byte(text: &[u8], at: usize) -> u8
     ensures { result ≡ get_or text.now at 0 }
 {
-    if at < text.len() { text[at] } else { 0 }
+    text.get(at).copied().unwrap_or(0)
 }
 
-// The value of a digit; 10 for a byte that is none.
-pub fn digit(b: u8) -> u32
+// The value of a digit; none for another byte.
+#[tactic(auto, unfolding(crate::specs::Numbers::digit_of))]
+pub fn digit(b: u8) -> Option<u32>
     ensures { result ≡ digit_of b }
 {
-    if b < 48 {
-        return 10;
+    match b {
+        b'0'..=b'9' => Some(u32::from(b - b'0')),
+        _ => None,
     }
-    if 57 < b {
-        return 10;
-    }
-    (b - 48) as u32
 }
 
 // The number that starts at `at`.
-pub fn number(text: &[u8], at: usize) -> Parsed
+pub fn number(text: &[u8], at: usize) -> Option<Parsed>
     ensures { result ≡ number_at text.now at }
 {
-    let first = digit(byte(text, at));
-    if 9 < first {
-        return Parsed::Bad;
-    }
-    let mut i = at + 1;
+    let first = digit(byte(text, at))?;
+    let mut next = at + 1;
     if first == 0 {
-        return Parsed::Value(0, i);
+        return Some(Parsed { value: 0, next });
     }
-    let mut v = first;
-    let mut d = digit(byte(text, i));
-    while d <= 9 {
-        v = v * 10 + d;
-        if 65535 < v {
-            return Parsed::Bad;
+    let mut value = first;
+    while let Some(d) = digit(byte(text, next)) {
+        value = value * 10 + d;
+        if 65535 < value {
+            return None;
         }
-        i += 1;
-        d = digit(byte(text, i));
+        next += 1;
     }
-    Parsed::Value(v as u16, i)
+    Some(Parsed {
+        value: value as u16,
+        next,
+    })
 }
 
 // The number that starts at `at`, with the byte `end` after it; the position is past that byte.
-pub fn item(text: &[u8], at: usize, end: u8) -> Parsed
+pub fn item(text: &[u8], at: usize, end: u8) -> Option<Parsed>
     requires { 0 < end }
     ensures { result ≡ item_at text.now end at }
 {
-    let got = number(text, at);
-    match got {
-        Parsed::Bad => Parsed::Bad,
-        Parsed::Value(v, next) => {
-            if byte(text, next) == end {
-                Parsed::Value(v, next + 1)
-            } else {
-                Parsed::Bad
-            }
-        }
+    let Parsed { value, next } = number(text, at)?;
+    if byte(text, next) != end {
+        return None;
     }
+    Some(Parsed {
+        value,
+        next: next + 1,
+    })
 }
 
 // Whether the bytes of `key` stand at `at`.
@@ -80,12 +73,10 @@ pub fn starts(text: &[u8], at: usize, key: &[u8]) -> bool
     requires { (at ≤ 32768) × (length key.now ≤ 64) }
     ensures { result ≡ starts_at text.now at key.now }
 {
-    let mut j: usize = 0;
-    while j < key.len() {
-        if byte(text, at + j) != key[j] {
+    for (j, k) in key.iter().enumerate() {
+        if byte(text, at + j) != *k {
             return false;
         }
-        j += 1;
     }
     true
 }

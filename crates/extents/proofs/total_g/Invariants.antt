@@ -1,13 +1,10 @@
 -- `total_g` adds one number after the other.
 use mathlib.Core.Path.{◌≡◌}
-use Prim.Native.Nat.{◌-◌, ◌*◌, ◌≤◌}
+use Prim.Native.Nat.{◌*◌, ◌≤◌}
 use Rattle.parsimony.specs.Lists.{sum, from}
 use Rattle.parsimony.specs.Matrix.{state_of}
 use Rattle.parsimony.specs.Index as index
 use Rattle.extents.proofs.total_g.Given as goal
 
 abbrev pub invariant-loop-j : goal.invariant-loop-j
-invariant-loop-j l = (l.j ≤ l.c) × (l.total ≡ sum (λ k. index.g l.n (state_of l.matrix l.c k) l.root) (from 1 l.j)) × (l.total ≤ 2559744 * l.j)
-
-abbrev pub decreases-loop-j : goal.decreases-loop-j
-decreases-loop-j l = l.c - l.j
+invariant-loop-j l = (l.total ≡ sum (λ k. index.g l.n (state_of l.matrix l.c k) l.root) (from 1 l.j)) × (l.total ≤ 2559744 * l.j)

@@ -1,9 +1,7 @@
 -- `put_count` writes a key, a number and LF. The room is enough, since the number has ten digits at most.
-use mathlib.Core.List.{◌++◌}
 use native.Mathlib.Omega.{arith}
 use Rattle.numbers.specs.Printed.{decimal}
 use Rattle.printing.proofs.Laws.{written_both}
-use Rattle.fields.specs.Fields as text
 use Rattle.fields.proofs.Pieces.{written-size}
 use Rattle.fields.proofs.Room.{ten_digits, field-short}
 use Rattle.fields.proofs.put_count.Goals as goal
@@ -18,7 +16,7 @@ pub returns : goal.returns
 returns c =
     record {
       written =
-          written_both c.args.key.now (decimal c.args.v ++ text.byte 10) _ _ _ _ _ _ c.put_bytes-value.ensures
-          (written_both (decimal c.args.v) (text.byte 10) _ _ _ _ _ _ c.put_number-end.ensures c.put_byte.ensures);
+          written_both _ _ _ _ _ _ _ _ c.put_bytes-value.ensures
+          (written_both _ _ _ _ _ _ _ _ c.put_number-end.ensures c.put_byte.ensures);
       short = field-short c.args.key.now (decimal c.args.v) 10 (ten_digits c.args.v c.ranges.v.fits);
     }

@@ -1,9 +1,5 @@
 -- `put_fraction` writes over, a slash, under, a comma and the thousandths. There is room: over and under have ten digits at most, the thousandths four.
-use mathlib.Core.List.{List, ◌++◌}
-use Prim.Native.Nat.{ℕ}
 use native.Mathlib.Omega.{arith}
-use Rattle.numbers.specs.Printed.{decimal}
-use Rattle.fields.specs.Fields as text
 use Rattle.printing.proofs.Laws.{written_both}
 use Rattle.fields.proofs.Pieces.{written-size}
 use Rattle.fields.proofs.Room.{ten_digits, four_digits, fraction-short}
@@ -26,13 +22,11 @@ put_number-requires c = grind (arith, ten_digits, four_digits, written-size)
 
 pub returns : goal.returns
 returns c =
-    let u : ℕ = c.args.under in
-    let parts : List ℕ = decimal (text.thousandths c.args.over u) in
     record {
       written =
-          written_both (decimal c.args.over) (text.byte 47 ++ (decimal u ++ (text.byte 44 ++ parts))) _ _ _ _ _ _ c.put_number-slash.ensures
-          (written_both (text.byte 47) (decimal u ++ (text.byte 44 ++ parts)) _ _ _ _ _ _ c.put_byte-second.ensures
-          (written_both (decimal u) (text.byte 44 ++ parts) _ _ _ _ _ _ c.put_number-comma.ensures
-          (written_both (text.byte 44) parts _ _ _ _ _ _ c.put_byte-third.ensures (rw (← c.thousandths-parts.ensures) c.put_number.ensures))));
-      short = fraction-short _ _ c.ranges.over.fits c.ranges.under.fits c.requires.0;
+          written_both _ _ _ _ _ _ _ _ c.put_number-slash.ensures
+          (written_both _ _ _ _ _ _ _ _ c.put_byte-second.ensures
+          (written_both _ _ _ _ _ _ _ _ c.put_number-comma.ensures
+          (written_both _ _ _ _ _ _ _ _ c.put_byte-third.ensures (rw (← c.thousandths.ensures) c.put_number.ensures))));
+      short = fraction-short _ _ (omega arith) (omega arith) c.requires.0;
     }

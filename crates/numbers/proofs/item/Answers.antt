@@ -1,16 +1,13 @@
--- `item`: there is no number here; or one with the byte asked for behind it; or one with another byte.
+-- `item`: there is no number here; or one with another byte behind it; or one with the byte asked for.
 use mathlib.Core.Path.{sym, ◌∙◌}
-use Rattle.numbers.proofs.Laws.{item_bad, item_ended, item_open}
+use Rattle.numbers.proofs.Laws.{item_none, item_ended, item_open}
 use Rattle.numbers.proofs.item.Goals as goal
 
-pub returns-in-Bad : goal.returns-in-Bad
-returns-in-Bad c = item_bad _ _ _ (sym c.number-got.ensures ∙ c.in-Bad.is)
+pub returns-in_err-value : goal.returns-in_err-value
+returns-in_err-value c = c.from_residual.ensures ∙ sym (item_none _ _ _ (sym c.in_err-value.ensures))
 
 pub returns-then-byte-end : goal.returns-then-byte-end
-returns-then-byte-end c =
-    item_ended _ _ _ _ _ (sym c.number-got.ensures ∙ c.in-Value.is) (sym c.byte.ensures ∙ c.if-byte-end.true)
+returns-then-byte-end c = sym (item_open _ _ _ _ _ (sym c.in_ok-value.ensures) (λ e. c.if-byte-end.true (c.byte.ensures ∙ e)))
 
-pub returns-else-byte-end : goal.returns-else-byte-end
-returns-else-byte-end c =
-    item_open _ _ _ _ _ (sym c.number-got.ensures ∙ c.in-Value.is)
-    (λ e. c.if-byte-end.false (c.byte.ensures ∙ e))
+pub returns : goal.returns
+returns c = sym (item_ended _ _ _ _ _ (sym c.in_ok-value.ensures) (sym c.byte.ensures ∙ c.if-byte-end.false))

@@ -1,13 +1,9 @@
--- `starts` compares one byte after the other. The invariant: the key stands here if what is left of it stands where the comparison is. The bytes left
--- are the measure.
+-- `starts` compares one byte after the other. The invariant: the key stands here if what is left of it stands where the comparison is.
 use mathlib.Core.Path.{◌≡◌}
-use Prim.Native.Nat.{◌+◌, ◌-◌, ◌≤◌}
-use lib.ListN.{length, drop}
+use Prim.Native.Nat.{◌+◌}
+use lib.ListN.{drop}
 use Rattle.numbers.specs.Numbers.{starts_at}
 use Rattle.numbers.proofs.starts.Given as goal
 
 abbrev pub invariant-loop-j : goal.invariant-loop-j
-invariant-loop-j l = (l.j ≤ length l.key) × (starts_at l.text l.at l.key ≡ starts_at l.text (l.at + l.j) (drop l.j l.key))
-
-abbrev pub decreases-loop-j : goal.decreases-loop-j
-decreases-loop-j l = length l.key - l.j
+invariant-loop-j l = starts_at l.text l.at l.key ≡ starts_at l.text (l.at + l.j) (drop l.j l.key)
