@@ -18,7 +18,7 @@ use Rattle.parsimony.proofs.Sums.{all_map, same_self, same-apart}
 use Rattle.parsimony.proofs.Tables.Trees.{Tree}
 use Rattle.parsimony.proofs.Tables.Mending.{Alike, stays_settled}
 use Rattle.parsimony.proofs.Ranges.Joins.{join-high, cost-high}
-use Rattle.shapes.specs.Shape.{under, Filled}
+use Rattle.shapes.specs.Shape.{under}
 use Rattle.shapes.proofs.Subtrees as subtrees
 use Rattle.rows.specs.Rows.{range_at, Same, Room, Settleable, SettledRow}
 use Rattle.blocks.specs.Blocks.{Fits, Walks, WalkedIn}
@@ -29,16 +29,7 @@ pub same-on : (lows highs lengths lows₁ highs₁ lengths₁ lows₂ highs₂ l
     → Same lows highs lengths lows₂ highs₂ lengths₂ w i v
 same-on lows highs lengths lows₁ highs₁ lengths₁ lows₂ highs₂ lengths₂ w i v (a, b, d) (a', b', d') = (a' ∙ a, b' ∙ b, d' ∙ d)
 
--- the two descendants of an interior node, read from the lists at its place
-pub fork_of : (n : ℕ) (tree left right : List ℕ) (v a b : ℕ) → Filled n tree left right → n < v → v ≤ length tree
-    → a ≡ get_or left (v - n - 1) 0 → b ≡ get_or right (v - n - 1) 0 → descendants tree v ≡ a ∷ b ∷ []
-fork_of n tree left right v a b F lo hi p q =
-    F v lo hi ∙ ap₂ (λ x y. x ∷ y ∷ []) (ap (λ k. get_or left k 0) place ∙ sym p) (ap (λ k. get_or right k 0) place ∙ sym q)
-  where
-    place : v - suc n ≡ v - n - 1
-    place = omega arith
-
-module _ (node n w : ℕ) (tree : List ℕ) (ρ δ : ℕ) (left right lows highs lengths : List ℕ)
+module _ {node n w : ℕ} {tree : List ℕ} {ρ δ : ℕ} {left right lows highs lengths : List ℕ}
     (W : Walks node n w tree ρ δ left right lows highs lengths) where
   abbrev T : Tree
   T = record { n = n; tree = tree; ρ = ρ; δ = δ; is_tree = W.accepted.is_tree }
@@ -58,8 +49,17 @@ module _ (node n w : ℕ) (tree : List ℕ) (ρ δ : ℕ) (left right lows highs
       nobody v lo h = let e : v ≡ node = subtrees.under-taxon T node v W.some l W.apart h in omega arith
 
   -- few nodes are left when a node is deep
-  pub allowed_some : (allowed : ℕ) → length tree < deep tree (length tree) node + allowed → 1 ≤ allowed
-  allowed_some allowed h = omega (arith, subtrees.deep-few T node)
+  pub allowed_some : {allowed : ℕ} → length tree < deep tree (length tree) node + allowed → 1 ≤ allowed
+  allowed_some h = omega (arith, subtrees.deep-few T node)
+
+  -- the two descendants of an interior node, read from the lists at its place
+  pub fork : {a b : ℕ} → n < node → a ≡ get_or left (node - n - 1) 0 → b ≡ get_or right (node - n - 1) 0 → descendants tree node ≡ a ∷ b ∷ []
+  fork lo p q =
+      W.shape node lo W.most
+      ∙ ap₂ (λ x y. x ∷ y ∷ []) (ap (λ k. get_or left k 0) place ∙ sym p) (ap (λ k. get_or right k 0) place ∙ sym q)
+    where
+      place : node - suc n ≡ node - n - 1
+      place = omega arith
 
   pub nodes-few : length tree ≤ 510
   nodes-few = omega (arith, W.sized.nodes, W.sized.most)
@@ -82,7 +82,7 @@ module _ (node n w : ℕ) (tree : List ℕ) (ρ δ : ℕ) (left right lows highs
         none = none;
       }
 
-  module _ (a b : ℕ) (lo : n < node) (D : descendants tree node ≡ a ∷ b ∷ []) where
+  module _ {a b : ℕ} (lo : n < node) (D : descendants tree node ≡ a ∷ b ∷ []) where
     hi : node ≤ length tree
     hi = W.most
 
@@ -96,7 +96,7 @@ module _ (node n w : ℕ) (tree : List ℕ) (ρ δ : ℕ) (left right lows highs
         let (s, m, e) = subtrees.some_first T node a b lo hi D in
         omega (arith, subtrees.deep-below T a s, ap (deep tree (length tree)) e, subtrees.deep-few T node)
 
-    module _ (lows₁ highs₁ lengths₁ : List ℕ) (A : WalkedIn a n w tree lows highs lengths lows₁ highs₁ lengths₁) where
+    module _ {lows₁ highs₁ lengths₁ : List ℕ} (A : WalkedIn a n w tree lows highs lengths lows₁ highs₁ lengths₁) where
       pub walks-second : Walks b n w tree ρ δ left right lows₁ highs₁ lengths₁
       walks-second =
           let (s, m, _) = subtrees.some-second T node a b lo hi D in
@@ -113,7 +113,7 @@ module _ (node n w : ℕ) (tree : List ℕ) (ρ δ : ℕ) (left right lows highs
           let (s, m, e) = subtrees.some-second T node a b lo hi D in
           omega (arith, subtrees.deep-below T b s, ap (deep tree (length tree)) e, subtrees.deep-few T node)
 
-      module _ (lows₂ highs₂ lengths₂ : List ℕ) (B : WalkedIn b n w tree lows₁ highs₁ lengths₁ lows₂ highs₂ lengths₂) where
+      module _ {lows₂ highs₂ lengths₂ : List ℕ} (B : WalkedIn b n w tree lows₁ highs₁ lengths₁ lows₂ highs₂ lengths₂) where
         -- what a descendant's entry is, once both subtrees are finished
         abbrev Fit : ℕ → ℕ → Type 0
         Fit i v = Fits n tree lows₂ highs₂ lengths₂ w i v
@@ -178,7 +178,7 @@ module _ (node n w : ℕ) (tree : List ℕ) (ρ δ : ℕ) (left right lows highs
                   );
             }
 
-        module _ (lows₃ highs₃ lengths₃ : List ℕ) (R : SettledRow node a b w w lows₂ highs₂ lengths₂ lows₃ highs₃ lengths₃) where
+        module _ {lows₃ highs₃ lengths₃ : List ℕ} (R : SettledRow node a b w w lows₂ highs₂ lengths₂ lows₃ highs₃ lengths₃) where
           off : (i u : ℕ) → 1 ≤ i → i ≤ w → 1 ≤ u → u ≢ node → Same lows₂ highs₂ lengths₂ lows₃ highs₃ lengths₃ w i u
           off i u p q r h = R.kept i u p q r (inl h)
 

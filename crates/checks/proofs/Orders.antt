@@ -6,7 +6,9 @@ use mathlib.Core.Logic.{inl, inr}
 use mathlib.Core.List.{List, ◌∷◌, ◌++◌}
 use Prim.Native.Nat.{ℕ, ◌+◌, ◌-◌, ◌*◌}
 use lib.ListN.{length}
+use Rattle.std.specs.Prelude.{Option, None}
 use Rattle.parsimony.specs.Table as table
+use Rattle.refusals.specs.declared.Reason.TheVariants.{Limits}
 use Rattle.refusals.specs.declared.Refusal.{Refusal}
 use Rattle.refusals.specs.Search.{Never}
 use Rattle.refusals.specs.Checks.{Check, at, Refuses, Passes, Slice, slices}
@@ -15,8 +17,6 @@ use Rattle.refusals.proofs.Order.{Sure, AllSure, sure_at, sure_lowest, sure_appe
 use Rattle.cells.specs.Above.{AboveAt, AboveIn}
 use Rattle.trees.specs.Answers.{Sized, tree_faults}
 use Rattle.trees.proofs.Unique.{sure_faults, accepted-passes}
-use Rattle.limits.specs.declared.Lent.{Lent}
-use Rattle.limits.specs.declared.Lent.TheVariants.{Exact}
 use Rattle.limits.specs.Limits.{Outside, lent_slices, Told, InLimits}
 use Rattle.limits.proofs.Lending.{exact-clear, not_outside}
 use Rattle.checks.specs.Calls.{NoCharacter, character_cell, cell_checks, all_checks, character_checks, matrix_checks, Admissible, CellsPass}
@@ -45,10 +45,10 @@ module _ (n c : ℕ) (tree matrix : List ℕ) (rest : List Slice) where
 
   -- ---- 1, by itself
 
-  pub character_outside : (j : ℕ) → Outside n c → Refuses (character_checks n c j tree matrix rest) (refusal 1 0)
+  pub character_outside : (j : ℕ) → Outside n c → Refuses (character_checks n c j tree matrix rest) (refusal Limits 0)
   character_outside j h = inl (refl, (refl, h))
 
-  pub matrix_outside : Outside n c → Refuses (matrix_checks n c tree matrix rest) (refusal 1 0)
+  pub matrix_outside : Outside n c → Refuses (matrix_checks n c tree matrix rest) (refusal Limits 0)
   matrix_outside h = inl (refl, (refl, h))
 
   pub character-inside : (j : ℕ) → InLimits n c → (r : Refusal)
@@ -63,8 +63,8 @@ module _ (n c : ℕ) (tree matrix : List ℕ) (rest : List Slice) where
 
   -- ---- a call goes on
 
-  module _ (L : InLimits n c) (told : Lent) (t : Told 1 (lent_slices n c tree matrix rest) told) where
-    told-passes : told ≡ Exact → Passes (slices 1 (lent_slices n c tree matrix rest))
+  module _ (L : InLimits n c) (told : Option ℕ) (t : Told 1 (lent_slices n c tree matrix rest) told) where
+    told-passes : told ≡ None → Passes (slices 1 (lent_slices n c tree matrix rest))
     told-passes e = subst (Told 1 (lent_slices n c tree matrix rest)) e t
 
     pub admissible : Admissible n c tree matrix told
@@ -74,10 +74,10 @@ module _ (n c : ℕ) (tree matrix : List ℕ) (rest : List Slice) where
           exact = λ e. let (p, (q, r)) = told-passes e in (exact-clear 1 (length tree) (2 * n - 2) p, exact-clear 2 (length matrix) (n * c) q);
         }
 
-    pub rest-passes : told ≡ Exact → Passes (slices 3 rest)
+    pub rest-passes : told ≡ None → Passes (slices 3 rest)
     rest-passes e = let (p, (q, r)) = told-passes e in r
 
-    pub passes-call : (cs : List {1} Check) → told ≡ Exact → (ρ δ : ℕ) → table.Accepted n tree ρ δ → Passes cs
+    pub passes-call : (cs : List {1} Check) → told ≡ None → (ρ δ : ℕ) → table.Accepted n tree ρ δ → Passes cs
         → Passes (at 1 0 (Outside n c) ∷ slices 1 (lent_slices n c tree matrix rest) ++ (tree_faults n tree ++ cs))
     passes-call cs e ρ δ A P = (
       clear_at 1 0 (Outside n c) (not_outside n c L),
@@ -85,16 +85,16 @@ module _ (n c : ℕ) (tree matrix : List ℕ) (rest : List Slice) where
           (passes_append (tree_faults n tree) cs (accepted-passes n tree ρ δ A) P),
     )
 
-    pub character-passes : (j : ℕ) → told ≡ Exact → (ρ δ : ℕ) → table.Accepted n tree ρ δ → CellsPass n c j matrix
+    pub character-passes : (j : ℕ) → told ≡ None → (ρ δ : ℕ) → table.Accepted n tree ρ δ → CellsPass n c j matrix
         → Passes (character_checks n c j tree matrix rest)
     character-passes j e ρ δ A P =
         passes-call (cell_checks n c j matrix) e ρ δ A
         (clear-character n c j matrix P.some P.most, (clear-cell n c j matrix P.small, tt))
 
-    pub matrix-passes : told ≡ Exact → (ρ δ : ℕ) → table.Accepted n tree ρ δ → Never (AboveAt matrix) (n * c)
+    pub matrix-passes : told ≡ None → (ρ δ : ℕ) → table.Accepted n tree ρ δ → Never (AboveAt matrix) (n * c)
         → Passes (matrix_checks n c tree matrix rest)
     matrix-passes e ρ δ A N = passes-call (all_checks n c matrix) e ρ δ A (clear-lowest 7 (AboveAt matrix) (n * c) N, tt)
 
     -- the sizes that the passes ask
-    pub sized : told ≡ Exact → Sized n tree
+    pub sized : told ≡ None → Sized n tree
     sized e = record { least = L.least; most = L.most; nodes = (admissible.exact e).0 }

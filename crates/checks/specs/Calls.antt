@@ -1,17 +1,15 @@
 -- The checks of the calls that take a tree and a matrix, as lists in document 01's order, and what is told when some of them are made.
 -- Assumes nothing.
-use Rattle.std.specs.Prelude.{◌≡◌, ◌⊎◌, List, [], ◌∷◌, ◌++◌, ℕ, ◌-◌, ◌*◌, ◌≤◌, ◌<◌, length}
+use Rattle.std.specs.Prelude.{◌≡◌, ◌⊎◌, List, [], ◌∷◌, ◌++◌, ℕ, ◌-◌, ◌*◌, ◌≤◌, ◌<◌, length, Option, None, Result, Ok, Err}
 use Rattle.parsimony.specs.Table as table
 use Rattle.parsimony.specs.Matrix.{cell_number}
+use Rattle.refusals.specs.declared.Refusal.{Refusal}
 use Rattle.refusals.specs.Search.{Lowest, Never}
 use Rattle.refusals.specs.Checks.{Check, at, lowest, Refuses, Slice, slices}
 use Rattle.cells.specs.Above.{AboveAt, AboveIn}
+use Rattle.trees.specs.declared.Rooted.{Rooted}
 use Rattle.trees.specs.Answers.{tree_faults}
-use Rattle.limits.specs.declared.Lent.{Lent}
-use Rattle.limits.specs.declared.Lent.TheVariants.{Exact}
 use Rattle.limits.specs.Limits.{Outside, InLimits, lent_slices, Told}
-use Rattle.checks.specs.declared.Admission.{Admission}
-use Rattle.checks.specs.declared.Admission.TheVariants.{Admitted, Refused}
 
 -- ---- the checks
 
@@ -44,9 +42,9 @@ matrix_checks n c tree matrix rest =
 -- ---- behind the sizes
 
 -- n and c are in their limits, and, unless a slice is wrong, the tree and the matrix are of the right length
-pub record Admissible (n c : ℕ) (tree matrix : List ℕ) (told : Lent) : Type 0 where
+pub record Admissible (n c : ℕ) (tree matrix : List ℕ) (told : Option ℕ) : Type 0 where
   pub limits : InLimits n c
-  pub exact : told ≡ Exact → (length tree ≡ 2 * n - 2) × (length matrix ≡ n * c)
+  pub exact : told ≡ None → (length tree ≡ 2 * n - 2) × (length matrix ≡ n * c)
 
 -- the character is one of the c, and none of its states is above 9999
 pub record CellsPass (n c j : ℕ) (matrix : List ℕ) : Type 0 where
@@ -54,24 +52,24 @@ pub record CellsPass (n c j : ℕ) (matrix : List ℕ) : Type 0 where
   pub most : j ≤ c
   pub small : Never (AboveIn matrix c j) n
 
--- after the tree: the cells pass, and the root and its descendant are handed on; or 8 or 7 applies
-abbrev pub AdmitsCells : (n c j ρ δ : ℕ) (matrix : List ℕ) → Admission → Type 0
-AdmitsCells n c j ρ δ matrix (Admitted ρ' δ') = (ρ' ≡ ρ) × (δ' ≡ δ) × CellsPass n c j matrix
-AdmitsCells n c j ρ δ matrix (Refused r) = Refuses (cell_checks n c j matrix) r
+-- after the tree: the cells pass, or 8 or 7 applies
+abbrev pub AdmitsCells : (n c j : ℕ) (matrix : List ℕ) → Result (Unit {0}) Refusal → Type 0
+AdmitsCells n c j matrix (Ok _) = CellsPass n c j matrix
+AdmitsCells n c j matrix (Err r) = Refuses (cell_checks n c j matrix) r
 
 -- the same for all cells: or 7 applies
-abbrev pub AdmitsAll : (n c ρ δ : ℕ) (matrix : List ℕ) → Admission → Type 0
-AdmitsAll n c ρ δ matrix (Admitted ρ' δ') = (ρ' ≡ ρ) × (δ' ≡ δ) × Never (AboveAt matrix) (n * c)
-AdmitsAll n c ρ δ matrix (Refused r) = Refuses (all_checks n c matrix) r
+abbrev pub AdmitsAll : (n c : ℕ) (matrix : List ℕ) → Result (Unit {0}) Refusal → Type 0
+AdmitsAll n c matrix (Ok _) = Never (AboveAt matrix) (n * c)
+AdmitsAll n c matrix (Err r) = Refuses (all_checks n c matrix) r
 
--- a call about one character goes on, or is refused by the first check that applies
-abbrev pub AdmitsCharacter : (n c j : ℕ) (tree matrix : List ℕ) → Lent → Admission → Type 0
-AdmitsCharacter n c j tree matrix told (Admitted ρ δ) = (told ≡ Exact) × table.Accepted n tree ρ δ × CellsPass n c j matrix
-AdmitsCharacter n c j tree matrix told (Refused r) =
+-- a call about one character goes on, with the root of the tree and its descendant, or is refused by the first check that applies
+abbrev pub AdmitsCharacter : (n c j : ℕ) (tree matrix : List ℕ) → Option ℕ → Result Rooted Refusal → Type 0
+AdmitsCharacter n c j tree matrix told (Ok r) = (told ≡ None) × table.Accepted n tree r.root r.top × CellsPass n c j matrix
+AdmitsCharacter n c j tree matrix told (Err r) =
     (ss : List Slice) → Told 1 ss told → Refuses (slices 1 ss ++ (tree_faults n tree ++ cell_checks n c j matrix)) r
 
 -- and one about all characters
-abbrev pub AdmitsMatrix : (n c : ℕ) (tree matrix : List ℕ) → Lent → Admission → Type 0
-AdmitsMatrix n c tree matrix told (Admitted ρ δ) = (told ≡ Exact) × table.Accepted n tree ρ δ × Never (AboveAt matrix) (n * c)
-AdmitsMatrix n c tree matrix told (Refused r) =
+abbrev pub AdmitsMatrix : (n c : ℕ) (tree matrix : List ℕ) → Option ℕ → Result Rooted Refusal → Type 0
+AdmitsMatrix n c tree matrix told (Ok r) = (told ≡ None) × table.Accepted n tree r.root r.top × Never (AboveAt matrix) (n * c)
+AdmitsMatrix n c tree matrix told (Err r) =
     (ss : List Slice) → Told 1 ss told → Refuses (slices 1 ss ++ (tree_faults n tree ++ all_checks n c matrix)) r

@@ -6,45 +6,26 @@ ghost use Rattle.std.specs.Prelude.{◌≡◌, ℕ, ◌*◌, ◌≤◌, ◌<◌,
 ghost use Rattle.limits.specs.Limits.{InLimits};
 ghost use Rattle.checks.specs.Calls.{Admissible, AdmitsCharacter, AdmitsMatrix, AdmitsCells, AdmitsAll};
 
-use limits::Lent;
-use refusals::{Found, Refusal};
-use trees::TreeAnswer;
+use refusals::{Reason, Refusal};
+use trees::Rooted;
 
-// Whether a call goes on, with the root of the tree and the root's descendant, or is refused.
-#[derive(Clone, Copy)]
-pub enum Admission {
-    Admitted(u16, u16),
-    Refused(Refusal),
-}
-
-fn refuse(number: u32, place: u32) -> Admission
-    ensures { result ≡ Admission.Refused (record { number = number; place = place }) }
+fn refuse(reason: Reason, place: u32) -> Refusal
+    ensures { result ≡ record { reason = reason; place = place } }
 {
-    Admission::Refused(Refusal { number, place })
+    Refusal { reason, place }
 }
 
 // 8, and 7 in the character's cells.
-fn admit_cells(
-    n: usize,
-    c: usize,
-    character: usize,
-    root: u16,
-    top: u16,
-    matrix: &[u16],
-) -> Admission
+fn admit_cells(n: usize, c: usize, character: usize, matrix: &[u16]) -> Result<(), Refusal>
     requires { InLimits n c × (length matrix.now ≡ n * c) }
-    ensures { AdmitsCells n c character root top matrix.now result }
+    ensures { AdmitsCells n c character matrix.now result }
 {
-    if character < 1 {
-        return refuse(8, 0);
+    if character < 1 || c < character {
+        return Err(refuse(Reason::Character, 0));
     }
-    if c < character {
-        return refuse(8, 0);
-    }
-    let above = cells::taxon_above(n, c, character, matrix);
-    match above {
-        Found::At(taxon) => refuse(7, ((taxon - 1) * c + character) as u32),
-        Found::Nowhere => Admission::Admitted(root, top),
+    match cells::taxon_above(n, c, character, matrix) {
+        Some(taxon) => Err(refuse(Reason::State, ((taxon - 1) * c + character) as u32)),
+        None => Ok(()),
     }
 }
 
@@ -55,44 +36,45 @@ pub fn admit_character(
     character: usize,
     tree: &[u16],
     matrix: &[u16],
-    lent: Lent,
-) -> Admission
+    lent: Option<u32>,
+) -> Result<Rooted, Refusal>
     requires { Admissible n c tree.now matrix.now lent }
     ensures { AdmitsCharacter n c character tree.now matrix.now lent result }
 {
-    if let Lent::Wrong(place) = lent {
-        return refuse(2, place);
+    if let Some(place) = lent {
+        return Err(refuse(Reason::Length, place));
     }
-    let answer = trees::check_tree(n, tree);
-    match answer {
-        TreeAnswer::Refused(refusal) => Admission::Refused(refusal),
-        TreeAnswer::Accepted(root, top) => admit_cells(n, c, character, root, top, matrix),
-    }
+    let rooted = trees::check_tree(n, tree)?;
+    admit_cells(n, c, character, matrix)?;
+    Ok(rooted)
 }
 
 // 7 in all cells.
-fn admit_all(n: usize, c: usize, root: u16, top: u16, matrix: &[u16]) -> Admission
+fn admit_all(n: usize, c: usize, matrix: &[u16]) -> Result<(), Refusal>
     requires { InLimits n c × (length matrix.now ≡ n * c) }
-    ensures { AdmitsAll n c root top matrix.now result }
+    ensures { AdmitsAll n c matrix.now result }
 {
-    let above = cells::state_above(n, c, matrix);
-    match above {
-        Found::At(cell) => refuse(7, cell as u32),
-        Found::Nowhere => Admission::Admitted(root, top),
+    match cells::state_above(n, c, matrix) {
+        Some(cell) => Err(refuse(Reason::State, cell as u32)),
+        None => Ok(()),
     }
 }
 
 // A call about all characters: 2, 3 to 6, and 7 in all cells.
-pub fn admit_matrix(n: usize, c: usize, tree: &[u16], matrix: &[u16], lent: Lent) -> Admission
+pub fn admit_matrix(
+    n: usize,
+    c: usize,
+    tree: &[u16],
+    matrix: &[u16],
+    lent: Option<u32>,
+) -> Result<Rooted, Refusal>
     requires { Admissible n c tree.now matrix.now lent }
     ensures { AdmitsMatrix n c tree.now matrix.now lent result }
 {
-    if let Lent::Wrong(place) = lent {
-        return refuse(2, place);
+    if let Some(place) = lent {
+        return Err(refuse(Reason::Length, place));
     }
-    let answer = trees::check_tree(n, tree);
-    match answer {
-        TreeAnswer::Refused(refusal) => Admission::Refused(refusal),
-        TreeAnswer::Accepted(root, top) => admit_all(n, c, root, top, matrix),
-    }
+    let rooted = trees::check_tree(n, tree)?;
+    admit_all(n, c, matrix)?;
+    Ok(rooted)
 }

@@ -3,7 +3,6 @@
 -- Assumes nothing.
 use mathlib.Core.Path.{◌≡◌, refl, sym, ◌∙◌, ap, subst}
 use mathlib.Core.Logic.{◌≢◌, ◌⊎◌, inl, inr, ⊎_elim}
-use mathlib.Core.Bool.{Bool, true, false}
 use mathlib.Core.List.{List, [], ◌∷◌}
 use Prim.Native.Nat.{ℕ, zero, suc, ◌+◌, ◌-◌, ◌≤◌, ◌<◌}
 use native.Mathlib.Decide.{ℕ_discrete}
@@ -16,7 +15,7 @@ use Rattle.parsimony.proofs.Sums.{same_self, same-apart, zeros}
 use Rattle.parsimony.proofs.Tables.Climbing.{climb-more, climb-add}
 use Rattle.refusals.specs.Search.{Lowest}
 use Rattle.faults.specs.Faults.{Lost}
-use Rattle.climbs.specs.Climbs.{Climbable, Reaches, Marked, Climbed}
+use Rattle.climbs.specs.Climbs.{Climbable, Reaches, Marked}
 
 -- ---- how many marks are 0: fewer with each mark that is set
 
@@ -142,17 +141,6 @@ module _ (ρ : ℕ) (tree : List ℕ) (k : ℕ) (marks₀ : List ℕ) where
         fresh v j p q d =
             ⊎_elim (λ (o : get_or marks v 0 ≡ get_or marks₀ v 0). M.fresh v j (omega arith) q (sym o ∙ d))
             (λ (o, _). let z : k ≡ j = sym o ∙ d in omega arith) (h.marks_are v)
-
--- ---- what a climb told
-
-pub climbed_yes : (ρ : ℕ) (tree : List ℕ) (k : ℕ) (marks : List ℕ) (b : Bool) → Climbed ρ tree k marks b → b ≡ true
-    → Marked ρ tree (k + 1) marks × Reaches tree ρ k
-climbed_yes ρ tree k marks true h e = h
-climbed_yes ρ tree k marks false h e = let z : ◌≡◌ {A = ℕ} 0 1 = cc in let y : ⊥ = omega arith in absurd y
-
-pub climbed_no : (ρ : ℕ) (tree : List ℕ) (k : ℕ) (marks : List ℕ) (b : Bool) → Climbed ρ tree k marks b → b ≡ false → Lost tree ρ k
-climbed_no ρ tree k marks true h e = let z : ◌≡◌ {A = ℕ} 0 1 = cc in let y : ⊥ = omega arith in absurd y
-climbed_no ρ tree k marks false h e = h
 
 -- ---- all nodes, one after the other
 

@@ -1,9 +1,7 @@
 -- Climbs that lead to the root, and what the search for a lost node finds.
 -- Assumes nothing.
-use Rattle.std.specs.Prelude.{◌≡◌, ◌≢◌, Bool, true, false, List, ℕ, ◌+◌, ◌≤◌, length, get_or}
+use Rattle.std.specs.Prelude.{◌≡◌, ◌≢◌, Bool, true, false, List, ℕ, ◌+◌, ◌≤◌, length, get_or, Option, Some, None}
 use Rattle.parsimony.specs.Table.{ancestor, climb}
-use Rattle.refusals.specs.declared.Found.{Found}
-use Rattle.refusals.specs.declared.Found.TheVariants as found
 use Rattle.refusals.specs.Search.{Lowest}
 use Rattle.faults.specs.Faults.{Lost}
 
@@ -19,9 +17,9 @@ abbrev pub Reaches : List ℕ → (ρ k : ℕ) → Type 0
 Reaches tree ρ k = (s : ℕ) × (climb tree s k ≡ ρ)
 
 -- what the search for a lost node found: the lowest, or every node comes to ρ
-abbrev pub FindsLost : ℕ → List ℕ → Found → Type 0
-FindsLost ρ tree (found.At k) = Lowest (Lost tree ρ) (length tree) k
-FindsLost ρ tree found.Nowhere = (k : ℕ) → 1 ≤ k → k ≤ length tree → Reaches tree ρ k
+abbrev pub FindsLost : ℕ → List ℕ → Option ℕ → Type 0
+FindsLost ρ tree (Some k) = Lowest (Lost tree ρ) (length tree) k
+FindsLost ρ tree None = (k : ℕ) → 1 ≤ k → k ≤ length tree → Reaches tree ρ k
 
 -- the marks before a climb from k: whoever has one comes to ρ, and k and the nodes after it have not been given as marks yet
 pub record Marked (ρ : ℕ) (tree : List ℕ) (k : ℕ) (marks : List ℕ) : Type 0 where

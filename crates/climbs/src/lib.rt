@@ -4,8 +4,6 @@
 ghost use Rattle.std.specs.Prelude.{◌≡◌, ℕ, ◌≤◌, ◌<◌, length};
 ghost use Rattle.climbs.specs.Climbs.{Climbable, FindsLost, Marked, Climbed};
 
-use refusals::{Found, wide};
-
 // Climbs from the node k, marking the nodes that it passes with k, and tells whether the climb leads to the root. It does if it comes to the root, or
 // to a node with an earlier mark; if it comes to a node with the mark k, it goes round for ever.
 fn climbs_out(root: usize, k: usize, tree: &[u16], marks: &mut [u16]) -> bool
@@ -14,7 +12,7 @@ fn climbs_out(root: usize, k: usize, tree: &[u16], marks: &mut [u16]) -> bool
 {
     let mut at = k;
     while at != root {
-        let mark = wide(marks[at]);
+        let mark = usize::from(marks[at]);
         if mark == k {
             return false;
         }
@@ -22,33 +20,22 @@ fn climbs_out(root: usize, k: usize, tree: &[u16], marks: &mut [u16]) -> bool
             return true;
         }
         marks[at] = k as u16;
-        at = wide(tree[at - 1]);
+        at = usize::from(tree[at - 1]);
     }
     true
 }
 
-// The lowest node whose ancestors never reach the root, found with marks that are all 0. Each node is marked once, by the first climb that passes it.
-fn first_lost(root: usize, tree: &[u16], marks: &mut [u16]) -> Found
-    requires { Climbable root tree.now × Marked root tree.now 1 marks.old }
-    ensures { FindsLost root tree.now result }
-{
-    let mut k: usize = 0;
-    while k < tree.len() {
-        let node = k + 1;
-        if climbs_out(root, node, tree, marks) {
-            k += 1;
-        } else {
-            return Found::At(node);
-        }
-    }
-    Found::Nowhere
-}
-
-// The lowest node whose ancestors never reach the root.
-pub fn lost_node(root: usize, tree: &[u16]) -> Found
+// The lowest node whose ancestors never reach the root. Each node is marked once, by the first climb that passes it.
+pub fn lost_node(root: usize, tree: &[u16]) -> Option<usize>
     requires { Climbable root tree.now }
     ensures { FindsLost root tree.now result }
 {
     let mut marks = [0u16; 511];
-    first_lost(root, tree, &mut marks)
+    for k in 0..tree.len() {
+        let node = k + 1;
+        if !climbs_out(root, node, tree, &mut marks) {
+            return Some(node);
+        }
+    }
+    None
 }

@@ -1,35 +1,19 @@
--- The entries of a table taken one by one: stray entries, and the descendants of the nodes, counted.
+-- The entries of a table taken one by one: the descendants of the nodes, counted.
 -- Assumes nothing.
-use mathlib.Core.Path.{◌≡◌, sym, ◌∙◌, ap, subst}
+use mathlib.Core.Path.{◌≡◌, sym, ◌∙◌, ap}
 use mathlib.Core.List.{List, [], ◌∷◌}
-use Prim.Native.Nat.{ℕ, ◌+◌, ◌≤◌, ◌<◌}
+use Prim.Native.Nat.{ℕ, ◌+◌, ◌≤◌}
 use native.Mathlib.Decide.{ℕ_discrete}
 use native.Mathlib.Numerals.{add-one}
 use native.Mathlib.Omega.{arith}
 use lib.ListN.{length, get_or, set, replicate, length-replicate}
 use lib.Seq.{get_or-set_same, get_or-set_other}
 use Rattle.parsimony.specs.Lists.{sum, from, same}
-use Rattle.parsimony.specs.Table.{ancestor, nodes, descendants}
+use Rattle.parsimony.specs.Table.{ancestor, nodes}
 use Rattle.parsimony.proofs.Sums.{same_self, same-apart, same-small, zeros, from_more, length_from, sum-append, sum_small, all_from}
 use Rattle.parsimony.proofs.Tables.Descendants.{length-having}
-use Rattle.refusals.specs.Search.{Lowest, Never}
-use Rattle.refusals.proofs.Laws.{never_more, lowest-here}
-use Rattle.faults.specs.Faults.{StrayEntry, WrongCount}
-use Rattle.faults.specs.Finding.{Strays, Wrong, InTable, Cleared, Counted}
+use Rattle.faults.specs.Finding.{InTable, Cleared, Counted}
 use Rattle.parsimony.proofs.Tables.Descendants.{entry_at}
-
--- ---- stray entries
-
-module _ (n ρ : ℕ) (tree : List ℕ) where
-  pub stray_here : (k entry : ℕ) → k < length tree → entry ≡ get_or tree k 0 → Never (StrayEntry n tree ρ) k → Strays n ρ (length tree) entry
-      → Lowest (StrayEntry n tree ρ) (length tree) (k + 1)
-  stray_here k entry l e h s =
-      lowest-here (StrayEntry n tree ρ) (length tree) k l h (subst (Strays n ρ (length tree)) (e ∙ sym (entry_at tree k)) s)
-
-  pub stray_passed : (k entry : ℕ) → entry ≡ get_or tree k 0 → Never (StrayEntry n tree ρ) k → (Strays n ρ (length tree) entry → ⊥)
-      → Never (StrayEntry n tree ρ) (k + 1)
-  stray_passed k entry e h s =
-      never_more (StrayEntry n tree ρ) k h (λ z. s (subst (Strays n ρ (length tree)) (sym (e ∙ sym (entry_at tree k))) z))
 
 -- ---- counts
 
@@ -84,17 +68,6 @@ module _ (tree : List ℕ) where
   pub counts_all : (k : ℕ) (counts : List ℕ) → k ≡ length tree → length tree ≤ 510 → CountsTo k counts → Counted tree counts
   counts_all k counts e few h v p q =
       h v (omega arith) ∙ ap (λ j. seen j v) e ∙ sym (length-having tree (nodes tree) v)
-
-  -- ---- wrong counts
-
-  module _ (n ρ : ℕ) where
-    pub wrong-here : (k count : ℕ) → k < length tree → count ≡ length (descendants tree (k + 1)) → Never (WrongCount n tree ρ) k
-        → Wrong n ρ (k + 1) count → Lowest (WrongCount n tree ρ) (length tree) (k + 1)
-    wrong-here k count l e h s = lowest-here (WrongCount n tree ρ) (length tree) k l h (subst (Wrong n ρ (k + 1)) e s)
-
-    pub wrong_passed : (k count : ℕ) → count ≡ length (descendants tree (k + 1)) → Never (WrongCount n tree ρ) k
-        → (Wrong n ρ (k + 1) count → ⊥) → Never (WrongCount n tree ρ) (k + 1)
-    wrong_passed k count e h s = never_more (WrongCount n tree ρ) k h (λ z. s (subst (Wrong n ρ (k + 1)) (sym e) z))
 
 -- a list of zeros is cleared
 pub cleared : Cleared (replicate 511 0)

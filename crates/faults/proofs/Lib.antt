@@ -1,4 +1,3 @@
--- How the searches come by their answers.
---     Counting    stray entries, and the descendants, counted
+-- How the descendants of the nodes are counted.
 -- Assumes nothing.
 mod Counting

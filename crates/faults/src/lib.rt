@@ -4,54 +4,37 @@
 ghost use Rattle.std.specs.Prelude.{ℕ, ◌≤◌, length};
 ghost use Rattle.refusals.specs.Search.{Finds, Tells};
 ghost use Rattle.faults.specs.Faults.{StrayEntry, WrongCount};
-ghost use Rattle.faults.specs.Finding.{Strays, Wrong, InTable, Cleared, Counted};
-
-use refusals::{Found, wide};
+ghost use Rattle.faults.specs.Finding.{Strays, Wrong, InTable, Counted};
 
 // Whether an entry is above the nodes, or names a taxon that is not the root.
 fn strays(n: usize, root: usize, nodes: usize, entry: usize) -> bool
     ensures { Tells (Strays n root nodes entry) result }
 {
-    if nodes < entry {
-        return true;
-    }
-    if entry == 0 {
-        return false;
-    }
-    if n < entry {
-        return false;
-    }
-    if entry == root {
-        return false;
-    }
-    true
+    nodes < entry || (1 <= entry && entry <= n && entry != root)
 }
 
 // The lowest node whose entry is above the nodes or names a taxon that is not the root.
-pub fn stray_entry(n: usize, root: usize, tree: &[u16]) -> Found
+pub fn stray_entry(n: usize, root: usize, tree: &[u16]) -> Option<usize>
     ensures { Finds (StrayEntry n tree.now root) (length tree.now) result }
 {
-    let mut k: usize = 0;
-    while k < tree.len() {
-        if strays(n, root, tree.len(), wide(tree[k])) {
-            return Found::At(k + 1);
+    for (k, entry) in tree.iter().enumerate() {
+        if strays(n, root, tree.len(), usize::from(*entry)) {
+            return Some(k + 1);
         }
-        k += 1;
     }
-    Found::Nowhere
+    None
 }
 
 // Counts the descendants of each node: entry v of the list is that of the node v.
-fn count_descendants(tree: &[u16], counts: &mut [u16])
-    requires { InTable tree.now × Cleared counts.old }
-    ensures { Counted tree.now counts.new }
+fn count_descendants(tree: &[u16]) -> [u16; 511]
+    requires { InTable tree.now }
+    ensures { Counted tree.now result }
 {
-    let mut k: usize = 0;
-    while k < tree.len() {
-        let entry = wide(tree[k]);
-        counts[entry] = counts[entry] + 1;
-        k += 1;
+    let mut counts = [0u16; 511];
+    for entry in tree {
+        counts[usize::from(*entry)] += 1;
     }
+    counts
 }
 
 // Whether a node has a wrong number of descendants: the root, but not one; an interior node, but not two.
@@ -60,34 +43,23 @@ fn is_wrong(n: usize, root: usize, node: usize, count: u16) -> bool
     ensures { Tells (Wrong n root node count) result }
 {
     if node == root {
-        if count == 1 {
-            return false;
-        }
-        return true;
+        count != 1
+    } else {
+        n < node && count != 2
     }
-    if node <= n {
-        return false;
-    }
-    if count == 2 {
-        return false;
-    }
-    true
 }
 
 // The lowest node with a wrong number of descendants.
-pub fn wrong_count(n: usize, root: usize, tree: &[u16]) -> Found
+pub fn wrong_count(n: usize, root: usize, tree: &[u16]) -> Option<usize>
     requires { InTable tree.now × (root ≤ n) }
     ensures { Finds (WrongCount n tree.now root) (length tree.now) result }
 {
-    let mut counts = [0u16; 511];
-    count_descendants(tree, &mut counts);
-    let mut k: usize = 0;
-    while k < tree.len() {
+    let counts = count_descendants(tree);
+    for k in 0..tree.len() {
         let node = k + 1;
         if is_wrong(n, root, node, counts[node]) {
-            return Found::At(node);
+            return Some(node);
         }
-        k += 1;
     }
-    Found::Nowhere
+    None
 }

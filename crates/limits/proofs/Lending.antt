@@ -1,4 +1,4 @@
--- What is told of the slices, and of the limits of n and c.
+-- What is known of a slice that is not refused, and of n and c in their limits.
 -- Assumes nothing.
 use mathlib.Core.Path.{◌≡◌, refl}
 use mathlib.Core.Logic.{◌≢◌, inl, inr, ⊎_elim}
@@ -6,19 +6,9 @@ use Prim.Native.Nat.{ℕ, ◌<◌}
 use native.Mathlib.Decide.{ℕ_discrete}
 use native.Mathlib.Omega.{arith, by_contra}
 use Rattle.refusals.specs.Checks.{at, Clear}
-use Rattle.refusals.proofs.Order.{clear_slice}
-use Rattle.limits.specs.declared.Lent.{Lent}
-use Rattle.limits.specs.declared.Lent.TheVariants.{Exact, Wrong}
-use Rattle.limits.specs.Limits.{Outside, InLimits, LentTo}
+use Rattle.limits.specs.Limits.{Outside, InLimits}
 
 -- ---- one slice
-
-pub lent-wrong : (i has asked : ℕ) (others : Lent) → has ≢ asked → LentTo i has asked others (Wrong i)
-lent-wrong i has asked others d ss h = inl (refl, (refl, d))
-
-pub lent-exact : (i has asked : ℕ) (others : Lent) → has ≡ asked → LentTo i has asked others others
-lent-exact i has asked Exact e ss h = (clear_slice i has asked e, h)
-lent-exact i has asked (Wrong p) e ss h = inr (clear_slice i has asked e, h)
 
 -- a slice that is not refused is exact
 pub exact-clear : (i has asked : ℕ) → Clear (at 2 i (has ≢ asked)) → has ≡ asked

@@ -1,3 +1,3 @@
--- What is told of the slices, and of the limits of n and c.
+-- What is known of a slice that is not refused, and of n and c in their limits.
 -- Assumes nothing.
 pub mod Lending

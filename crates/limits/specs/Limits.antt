@@ -1,10 +1,9 @@
 -- The limits of n and c, and the lengths of the slices lent to a call: when 1 and 2 apply, and what is told of the slices.
 -- Assumes nothing.
-use Rattle.std.specs.Prelude.{◌⊎◌, List, ◌∷◌, ℕ, suc, ◌-◌, ◌*◌, ◌≤◌, ◌<◌, length}
+use Rattle.std.specs.Prelude.{◌⊎◌, List, ◌∷◌, ℕ, suc, ◌-◌, ◌*◌, ◌≤◌, ◌<◌, length, Option, Some, None}
+use Rattle.refusals.specs.declared.Reason.TheVariants.{Length}
 use Rattle.refusals.specs.Checks.{Refuses, Passes, Slice, slices}
 use Rattle.trees.specs.Answers.{tree_slice}
-use Rattle.limits.specs.declared.Lent.{Lent}
-use Rattle.limits.specs.declared.Lent.TheVariants.{Exact, Wrong}
 
 -- ---- the limits
 
@@ -35,11 +34,11 @@ lent_slices n c tree matrix rest = tree_slice n tree ∷ matrix_slice n c matrix
 
 -- ---- what is told of the slices
 
--- of the slices from the number i on
-abbrev pub Told : ℕ → List Slice → Lent → Type 0
-Told i ss Exact = Passes (slices i ss)
-Told i ss (Wrong p) = Refuses (slices i ss) (record { number = 2; place = p })
+-- of the slices from the number i on: the first that has not its length, or none
+abbrev pub Told : ℕ → List Slice → Option ℕ → Type 0
+Told i ss None = Passes (slices i ss)
+Told i ss (Some p) = Refuses (slices i ss) (record { reason = Length; place = p })
 
 -- of one more, before the others
-abbrev pub LentTo : (i has asked : ℕ) (others told : Lent) → Type 0
+abbrev pub LentTo : (i has asked : ℕ) (others told : Option ℕ) → Type 0
 LentTo i has asked others told = (ss : List Slice) → Told (suc i) ss others → Told i (record { has = has; asked = asked } ∷ ss) told

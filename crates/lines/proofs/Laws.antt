@@ -3,16 +3,14 @@
 -- Assumes nothing.
 use mathlib.Core.Path.{◌≡◌, refl, sym, ap, ◌∙◌}
 use mathlib.Core.List.{List, [], ◌∷◌, ◌++◌, flatten}
-use Prim.Native.Nat.{ℕ, zero, suc, ◌+◌, ◌-◌, ◌≤◌, ◌<◌}
+use Prim.Native.Nat.{ℕ, zero, suc, ◌+◌, ◌≤◌, ◌<◌}
 use native.Mathlib.Omega.{arith}
 use native.Mathlib.Numerals.{add-one}
 use lib.ListN.{length, set}
 use lib.Seq.{sets}
-use Rattle.numbers.specs.declared.Parsed.TheVariants.{Value, Bad}
-use Rattle.numbers.specs.Numbers.{item_at}
+use Rattle.std.specs.Prelude.{Option, Some, None, Result, Ok, Err}
+use Rattle.numbers.specs.Numbers.{parsed, item_at}
 use Rattle.numbers.proofs.Lists.{sets_append}
-use Rattle.lines.specs.declared.Line.TheVariants as line
-use Rattle.lines.specs.declared.Rows.TheVariants as rows
 use Rattle.lines.specs.Printed.{row_key}
 use Rattle.lines.specs.Lines.{Numbers, all, cut, mark_of, before, then, values_at, line_at, told_line, numbers_of, Stored}
 use Rattle.lines.specs.Lines.{Table, whole, wrong, above, then_rows, rows_at, told_rows, cells_of, StoredRows}
@@ -37,16 +35,17 @@ unfolding before
 numbers_before v (all vs next) = refl
 numbers_before v (cut vs) = refl
 
-pub values_bad : (text : List ℕ) (left i : ℕ) → 0 < left → item_at text (mark_of left) i ≡ Bad → values_at text left i ≡ cut []
+pub values_bad : (text : List ℕ) (left i : ℕ) → 0 < left → item_at text (mark_of left) i ≡ None → values_at text left i ≡ cut []
 unfolding values_at then
 values_bad text zero i p e = absurd (omega arith)
 values_bad text (suc k) i p e = rw e
 
-pub values_more : (text : List ℕ) (left i v next : ℕ) → 0 < left → item_at text (mark_of left) i ≡ Value v next
-    → values_at text left i ≡ before v (values_at text (left - 1) next)
+pub values_more : (text : List ℕ) (left i v next more : ℕ) → left ≡ more + 1 → item_at text (mark_of left) i ≡ parsed v next
+    → values_at text left i ≡ before v (values_at text more next)
 unfolding values_at then
-values_more text zero i v next p e = absurd (omega arith)
-values_more text (suc k) i v next p e = let z : k ≡ suc k - 1 = omega arith in rw e (ap (λ (m : ℕ). before v (values_at text m next)) z)
+values_more text zero i v next more p e = absurd (omega arith)
+values_more text (suc k) i v next more p e =
+    let z : k ≡ more = omega arith in rw e (ap (λ (m : ℕ). before v (values_at text m next)) z)
 
 pub values_end : (text : List ℕ) (left i : ℕ) → left ≤ 0 → values_at text left i ≡ all [] i
 unfolding values_at
@@ -55,35 +54,35 @@ values_end text (suc k) i p = absurd (omega arith)
 
 -- one number more is stored
 pub alike_more :
-    (v : Numbers) (out : List ℕ) (from : ℕ) (w : Numbers) (out' : List ℕ) (put a : ℕ) (rest : Numbers) →
-    Alike v out from w out' put → w ≡ before a rest → Alike v out from rest (set out' put a) (put + 1)
-alike_more v out from w out' put a rest A e =
+    (v : Numbers) (out : List ℕ) (from : ℕ) (w : Numbers) (out' : List ℕ) (put put' a : ℕ) (rest : Numbers) →
+    Alike v out from w out' put → w ≡ before a rest → put' ≡ put + 1 → Alike v out from rest (set out' put a) put'
+alike_more v out from w out' put put' a rest A e p =
     record {
       told = A.told ∙ ap told_line e ∙ told-before a rest;
       list =
           A.list
           ∙ ap (λ (l : Numbers). sets out' put (numbers_of l)) e
           ∙ ap (sets out' put) (numbers_before a rest)
-          ∙ ap (λ (m : ℕ). sets (set out' put a) m (numbers_of rest)) (sym (add-one put));
+          ∙ ap (λ (m : ℕ). sets (set out' put a) m (numbers_of rest)) (sym (p ∙ add-one put));
     }
 
 -- nothing more is to be stored
-pub alike_bad : (v : Numbers) (out : List ℕ) (from : ℕ) (w : Numbers) (out' : List ℕ) (put : ℕ) →
-    Alike v out from w out' put → w ≡ cut [] → Stored v out from line.Bad out'
-alike_bad v out from w out' put A e =
-    record { told = sym (A.told ∙ ap told_line e); list = sym (A.list ∙ ap (λ (l : Numbers). sets out' put (numbers_of l)) e) }
+pub alike_bad : (v : Numbers) (out : List ℕ) (from : ℕ) (w : Numbers) (out' : List ℕ) (put : ℕ) (r : Option ℕ) →
+    Alike v out from w out' put → w ≡ cut [] → r ≡ None → Stored v out from r out'
+alike_bad v out from w out' put r A e n =
+    record { told = n ∙ sym (A.told ∙ ap told_line e); list = sym (A.list ∙ ap (λ (l : Numbers). sets out' put (numbers_of l)) e) }
 
 pub alike_end : (v : Numbers) (out : List ℕ) (from : ℕ) (w : Numbers) (out' : List ℕ) (put next : ℕ) →
-    Alike v out from w out' put → w ≡ all [] next → Stored v out from (line.Good next) out'
+    Alike v out from w out' put → w ≡ all [] next → Stored v out from (Some next) out'
 alike_end v out from w out' put next A e =
     record { told = sym (A.told ∙ ap told_line e); list = sym (A.list ∙ ap (λ (l : Numbers). sets out' put (numbers_of l)) e) }
 
 -- what is told of a line says whether it is in form
-pub line-good : (v : Numbers) (next : ℕ) → line.Good next ≡ told_line v → v ≡ all (numbers_of v) next
+pub line-good : (v : Numbers) (next : ℕ) → Some next ≡ told_line v → v ≡ all (numbers_of v) next
 line-good (all vs n) next e = cc
 line-good (cut vs) next e = absurd (let z : ◌≡◌ {A = ℕ} 0 1 = cc in omega arith)
 
-pub line_bad : (v : Numbers) → line.Bad ≡ told_line v → v ≡ cut (numbers_of v)
+pub line_bad : (v : Numbers) → None ≡ told_line v → v ≡ cut (numbers_of v)
 line_bad (all vs n) e = absurd (let z : ◌≡◌ {A = ℕ} 0 1 = cc in omega arith)
 line_bad (cut vs) e = refl
 
@@ -113,13 +112,13 @@ unfolding rows_at then_rows
 rows_bad text width zero l i vs p e = absurd (omega arith)
 rows_bad text width (suc k) l i vs p e = rw e
 
-pub rows_more : (text : List ℕ) (width left l i : ℕ) (vs : List ℕ) (next : ℕ) → 0 < left → line_at text row_key width i ≡ all vs next
-    → rows_at text width left l i ≡ above vs (rows_at text width (left - 1) (l + 1) next)
+pub rows_more : (text : List ℕ) (width left l i : ℕ) (vs : List ℕ) (next more l' : ℕ) → left ≡ more + 1 → l' ≡ l + 1
+    → line_at text row_key width i ≡ all vs next → rows_at text width left l i ≡ above vs (rows_at text width more l' next)
 unfolding rows_at then_rows
-rows_more text width zero l i vs next p e = absurd (omega arith)
-rows_more text width (suc k) l i vs next p e =
-    let z : k ≡ suc k - 1 = omega arith in
-    rw e (ap (λ (m : ℕ). above vs (rows_at text width m (l + 1) next)) z)
+rows_more text width zero l i vs next more l' p q e = absurd (omega arith)
+rows_more text width (suc k) l i vs next more l' p q e =
+    let z : k ≡ more = omega arith in
+    rw e (ap (λ (m : ℕ). above vs (rows_at text width m (l + 1) next)) z ∙ ap (λ (m : ℕ). above vs (rows_at text width more m next)) (sym q))
 
 pub rows_end : (text : List ℕ) (width left l i : ℕ) → left ≤ 0 → rows_at text width left l i ≡ whole [] i
 unfolding rows_at
@@ -145,14 +144,14 @@ rows_alike_more t out from u out' put width row rest out'' A e size o =
 
 -- no row more is to be stored
 pub rows_alike_wrong :
-    (t : Table) (out : List ℕ) (from : ℕ) (u : Table) (out' : List ℕ) (put l : ℕ) (vs out'' : List ℕ) →
-    AlikeRows t out from u out' put → u ≡ wrong l vs → out'' ≡ sets out' put vs → StoredRows t out from (rows.Wrong l) out''
-rows_alike_wrong t out from u out' put l vs out'' A e o =
-    record { told = sym (A.told ∙ ap told_rows e); list = o ∙ sym (A.list ∙ ap (λ (w : Table). sets out' put (cells_of w)) e) }
+    (t : Table) (out : List ℕ) (from : ℕ) (u : Table) (out' : List ℕ) (put l : ℕ) (vs out'' : List ℕ) (r : Result ℕ ℕ) →
+    AlikeRows t out from u out' put → u ≡ wrong l vs → out'' ≡ sets out' put vs → r ≡ Err l → StoredRows t out from r out''
+rows_alike_wrong t out from u out' put l vs out'' r A e o n =
+    record { told = n ∙ sym (A.told ∙ ap told_rows e); list = o ∙ sym (A.list ∙ ap (λ (w : Table). sets out' put (cells_of w)) e) }
 
 pub rows_alike_end :
     (t : Table) (out : List ℕ) (from : ℕ) (u : Table) (out' : List ℕ) (put next : ℕ) →
-    AlikeRows t out from u out' put → u ≡ whole [] next → StoredRows t out from (rows.All next) out'
+    AlikeRows t out from u out' put → u ≡ whole [] next → StoredRows t out from (Ok next) out'
 unfolding flatten
 rows_alike_end t out from u out' put next A e =
     record { told = sym (A.told ∙ ap told_rows e); list = sym (A.list ∙ ap (λ (w : Table). sets out' put (cells_of w)) e) }
@@ -162,11 +161,11 @@ pub rows_in : Table → List (List ℕ)
 rows_in (whole rs next) = rs
 rows_in (wrong l vs) = []
 
-pub rows-good : (t : Table) (next : ℕ) → rows.All next ≡ told_rows t → t ≡ whole (rows_in t) next
+pub rows-good : (t : Table) (next : ℕ) → Ok next ≡ told_rows t → t ≡ whole (rows_in t) next
 unfolding rows_in
 rows-good (whole rs n) next e = cc
 rows-good (wrong l vs) next e = absurd (let z : ◌≡◌ {A = ℕ} 0 1 = cc in omega arith)
 
-pub rows-wrong : (t : Table) (l : ℕ) → rows.Wrong l ≡ told_rows t → t ≡ wrong l (cells_of t)
+pub rows-wrong : (t : Table) (l : ℕ) → Err l ≡ told_rows t → t ≡ wrong l (cells_of t)
 rows-wrong (whole rs n) l e = absurd (let z : ◌≡◌ {A = ℕ} 0 1 = cc in omega arith)
 rows-wrong (wrong m vs) l e = cc

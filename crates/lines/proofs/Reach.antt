@@ -9,8 +9,8 @@ use native.Mathlib.Nat.{suc-mul, zero-mul}
 use lib.Dec.{eqb}
 use lib.ListN.{length, length-append}
 use Rattle.numbers.specs.declared.Parsed.{Parsed}
-use Rattle.numbers.specs.declared.Parsed.TheVariants.{Value, Bad}
-use Rattle.numbers.specs.Numbers.{item_at, starts_at}
+use Rattle.std.specs.Prelude.{Option, Some, None}
+use Rattle.numbers.specs.Numbers.{parsed, item_at, starts_at}
 use Rattle.numbers.proofs.Laws.{item_long}
 use Rattle.lines.specs.Printed.{row_key}
 use Rattle.lines.specs.Lines.{Numbers, all, cut, mark_of, before, then, values_at, line_at, head_at}
@@ -39,15 +39,15 @@ reach-before v (all ws n) vs next m k len f e =
     (ap length (sym list) ∙ ap suc g.0, omega (arith, g.1), omega (arith, g.2))
 
 reach-then :
-    (got : Parsed) (f : ℕ → Numbers) (vs : List ℕ) (next i k len : ℕ) →
-    ((v m : ℕ) → got ≡ Value v m → (i + 2 ≤ m) × (m ≤ len)) →
+    (got : Option Parsed) (f : ℕ → Numbers) (vs : List ℕ) (next i k len : ℕ) →
+    ((v m : ℕ) → got ≡ parsed v m → (i + 2 ≤ m) × (m ≤ len)) →
     ((m : ℕ) → m ≤ len → (ws : List ℕ) (n : ℕ) → f m ≡ all ws n → (length ws ≡ k) × (m + 2 * k ≤ n) × (n ≤ len)) →
     then got f ≡ all vs next → (length vs ≡ suc k) × (i + 2 * suc k ≤ next) × (next ≤ len)
 unfolding then
-reach-then Bad f vs next i k len item more e = absurd (let z : ◌≡◌ {A = ℕ} 0 1 = cc in omega arith)
-reach-then (Value v m) f vs next i k len item more e =
-    let here = item v m refl in
-    let g = reach-before v (f m) vs next m k len (more m here.1) e in
+reach-then None f vs next i k len item more e = absurd (let z : ◌≡◌ {A = ℕ} 0 1 = cc in omega arith)
+reach-then (Some p) f vs next i k len item more e =
+    let here = item p.value p.next refl in
+    let g = reach-before p.value (f p.next) vs next p.next k len (more p.next here.1) e in
     (g.0, omega (arith, here.0, g.1), g.2)
 
 -- with one number or more the line is within the text wherever it begins
@@ -76,11 +76,11 @@ line-reach text key k i h vs next e =
     let g = values_reach text k (i + length key) (λ z. absurd (omega arith)) vs next (only_line (starts_at text i key) _ vs next e) in
     (g.0, omega (arith, g.1), g.2)
 
-only_head : (b : Bool) (p : Parsed) (v next : ℕ) → cond b p Bad ≡ Value v next → p ≡ Value v next
+only_head : (b : Bool) (p : Option Parsed) (v next : ℕ) → cond b p None ≡ parsed v next → p ≡ parsed v next
 only_head true p v next e = e
 only_head false p v next e = absurd (let z : ◌≡◌ {A = ℕ} 0 1 = cc in omega arith)
 
-pub head_reach : (text key : List ℕ) (i v next : ℕ) → head_at text key i ≡ Value v next → next ≤ length text
+pub head_reach : (text key : List ℕ) (i v next : ℕ) → head_at text key i ≡ parsed v next → next ≤ length text
 head_reach text key i v next e =
     (item_long text 10 (i + length key) v next (omega arith) (only_head (starts_at text i key) (item_at text 10 (i + length key)) v next e)).1
 

@@ -10,8 +10,8 @@ use borrow.Author.Tests.{ne_eqb}
 use lib.Dec.{eqb}
 use lib.ListN.{length, drop, length-append}
 use Rattle.numbers.specs.declared.Parsed.{Parsed}
-use Rattle.numbers.specs.declared.Parsed.TheVariants.{Value, Bad}
-use Rattle.numbers.specs.Numbers.{item_at, digit_of, starts_at}
+use Rattle.std.specs.Prelude.{Option, Some, None}
+use Rattle.numbers.specs.Numbers.{parsed, item_at, digit_of, starts_at}
 use Rattle.numbers.specs.Printed.{decimal, continued, commas}
 use Rattle.numbers.proofs.Laws.{item_fit}
 use Rattle.numbers.proofs.Round.{item_back, item_read, after, positive, key_back, key_read}
@@ -35,12 +35,12 @@ printed_is v (w ∷ vs) =
     ap (λ (b : Bool). decimal v ++ cond b 10 44 ∷ printed (w ∷ vs)) (ne_eqb (suc (suc (length vs))) 1 (λ e. omega arith))
     ∙ ap (λ (l : List ℕ). decimal v ++ 44 ∷ l) (printed_is w vs) ∙ sym (append_assoc (decimal v) (44 ∷ commas (w ∷ vs)) (10 ∷ []))
 
-mark_case : (b : Bool) → 9 < digit_of (cond b 10 44)
+mark_case : (b : Bool) → digit_of (cond b 10 44) ≡ None
 unfolding digit_of
-mark_case true = omega arith
-mark_case false = omega arith
+mark_case true = refl
+mark_case false = refl
 
-mark_stops : (k : ℕ) → 9 < digit_of (mark_of k)
+mark_stops : (k : ℕ) → digit_of (mark_of k) ≡ None
 unfolding mark_of
 mark_stops k = mark_case (eqb k 1)
 
@@ -73,15 +73,15 @@ back_before text v (all ws n) vs next i m k h f here e =
     }
 
 back_then :
-    (text : List ℕ) (got : Parsed) (f : ℕ → Numbers) (vs : List ℕ) (next i k : ℕ) →
-    ((v m : ℕ) → got ≡ Value v m → (v ≤ 65535) × (drop i text ≡ decimal v ++ mark_of (suc k) ∷ drop m text)) →
+    (text : List ℕ) (got : Option Parsed) (f : ℕ → Numbers) (vs : List ℕ) (next i k : ℕ) →
+    ((v m : ℕ) → got ≡ parsed v m → (v ≤ 65535) × (drop i text ≡ decimal v ++ mark_of (suc k) ∷ drop m text)) →
     ((m : ℕ) (ws : List ℕ) (n : ℕ) → f m ≡ all ws n → Back text k m ws n) →
     then got f ≡ all vs next → Back text (suc k) i vs next
 unfolding then
-back_then text Bad f vs next i k item more e = absurd (let z : ◌≡◌ {A = ℕ} 0 1 = cc in omega arith)
-back_then text (Value v m) f vs next i k item more e =
-    let (fits, here) = item v m refl in
-    back_before text v (f m) vs next i m k fits (more m) here e
+back_then text None f vs next i k item more e = absurd (let z : ◌≡◌ {A = ℕ} 0 1 = cc in omega arith)
+back_then text (Some p) f vs next i k item more e =
+    let (fits, here) = item p.value p.next refl in
+    back_before text p.value (f p.next) vs next i p.next k fits (more p.next) here e
 
 values_back : (text : List ℕ) (k i : ℕ) (vs : List ℕ) (next : ℕ) → values_at text k i ≡ all vs next → Back text k i vs next
 unfolding values_at printed Fit
@@ -130,7 +130,7 @@ values_read [] text i s h e = rw add-zero
 values_read (v ∷ vs) text i s h e =
     let mark = mark_of (length (v ∷ vs)) in
     let here : drop i text ≡ decimal v ++ mark ∷ (printed vs ++ s) = e ∙ append_assoc (decimal v) (mark ∷ printed vs) s in
-    let one : item_at text mark i ≡ Value v (i + length (decimal v) + 1) =
+    let one : item_at text mark i ≡ parsed v (i + length (decimal v) + 1) =
     item_read text mark i v (printed vs ++ s) h.0 (mark_stops (length (v ∷ vs))) here in
     let step : drop (i + length (decimal v)) text ≡ mark ∷ (printed vs ++ s) = after text i (decimal v) (mark ∷ (printed vs ++ s)) here in
     let next : drop (i + length (decimal v) + 1) text ≡ printed vs ++ s = after text (i + length (decimal v)) (mark ∷ []) (printed vs ++ s) step in
@@ -153,7 +153,7 @@ line_read text key i vs s some h e =
 
 -- ---- a line with one number
 
-only_head : (b : Bool) (p : Parsed) (v next : ℕ) → cond b p Bad ≡ Value v next → (b ≡ true) × (p ≡ Value v next)
+only_head : (b : Bool) (p : Option Parsed) (v next : ℕ) → cond b p None ≡ parsed v next → (b ≡ true) × (p ≡ parsed v next)
 only_head true p v next e = (refl, e)
 only_head false p v next e = absurd (let z : ◌≡◌ {A = ℕ} 0 1 = cc in omega arith)
 
@@ -164,7 +164,7 @@ head_print key v s =
     ∙ ap (λ (l : List ℕ). key ++ (l ++ (10 ∷ []) ++ s)) (sym (append-nil (decimal v)))
     ∙ sym (append_assoc key (commas (v ∷ []) ++ (10 ∷ [])) s)
 
-pub head_back : (text key : List ℕ) (i v next : ℕ) → positive key ≡ true → head_at text key i ≡ Value v next
+pub head_back : (text key : List ℕ) (i v next : ℕ) → positive key ≡ true → head_at text key i ≡ parsed v next
     → (v ≤ 65535) × (drop i text ≡ line key (v ∷ []) ++ drop next text)
 head_back text key i v next p e =
     let (s, f) = only_head (starts_at text i key) (item_at text 10 (i + length key)) v next e in
@@ -174,10 +174,10 @@ head_back text key i v next p e =
     )
 
 pub head_read : (text key : List ℕ) (i v : ℕ) (s : List ℕ) → v ≤ 65535 → drop i text ≡ line key (v ∷ []) ++ s
-    → (j : ℕ) × (head_at text key i ≡ Value v j) × (drop j text ≡ s)
+    → (j : ℕ) × (head_at text key i ≡ parsed v j) × (drop j text ≡ s)
 unfolding digit_of
 head_read text key i v s h e =
-    let stop : 9 < digit_of 10 = omega arith in
+    let stop : digit_of 10 ≡ None = refl in
     let here : drop i text ≡ key ++ (decimal v ++ 10 ∷ s) = e ∙ sym (head_print key v s) in
     let mid : drop (i + length key) text ≡ decimal v ++ 10 ∷ s = after text i key (decimal v ++ 10 ∷ s) here in (
       i + length key + length (decimal v) + 1,

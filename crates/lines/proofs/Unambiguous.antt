@@ -5,7 +5,7 @@ use mathlib.Core.List.{List, [], ◌∷◌, ◌++◌}
 use Prim.Native.Nat.{ℕ, ◌≤◌, ◌<◌}
 use native.Mathlib.Omega.{arith}
 use lib.ListN.{length, drop}
-use Rattle.numbers.specs.declared.Parsed.TheVariants.{Value}
+use Rattle.numbers.proofs.Laws.{same_parsed}
 use Rattle.lines.specs.Printed.{line, Fit, FitRows}
 use Rattle.lines.specs.Lines.{all, line_at, whole, rows_at}
 use Rattle.lines.proofs.Round.{head_read, line_read, row_lines, rows_read}
@@ -15,9 +15,8 @@ one_head key v w s t f g e =
     let text = line key (v ∷ []) ++ s in
     let (i, a, p) = head_read text key 0 v s f refl in
     let (j, b, q) = head_read text key 0 w t g e in
-    let same : Value v i ≡ Value w j = sym a ∙ b in
-    let at : i ≡ j = cc in
-    ((cc), sym p ∙ ap (λ k. drop k text) at ∙ q)
+    let (same, at) = same_parsed v i w j (sym a ∙ b) in
+    (same, sym p ∙ ap (λ k. drop k text) at ∙ q)
 
 pub one_line : (key vs ws s t : List ℕ) → 0 < length vs → length vs ≡ length ws → Fit vs → Fit ws → line key vs ++ s ≡ line key ws ++ t
     → (vs ≡ ws) × (s ≡ t)

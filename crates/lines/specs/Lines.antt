@@ -1,16 +1,11 @@
 -- How the lines of a sheet are read at a position of a text, and what is stored of them: what the functions of this crate do. That this is to find
 -- the printed lines of Printed.antt, no others, is proved in proofs/Round.antt.
 -- Assumes nothing.
-use Rattle.std.specs.Prelude.{◌≡◌, cond, ℕ, zero, suc, ◌+◌, eqb, length}
+use Rattle.std.specs.Prelude.{◌≡◌, cond, ℕ, zero, suc, ◌+◌, eqb, length, Option, Some, None, Result, Ok, Err}
 use mathlib.Core.List.{List, [], ◌∷◌, ◌++◌, flatten}
 use Rattle.std.proofs.lemmas.List.Edits.{sets}
 use Rattle.numbers.specs.declared.Parsed.{Parsed}
-use Rattle.numbers.specs.declared.Parsed.TheVariants.{Value, Bad}
 use Rattle.numbers.specs.Numbers.{item_at, starts_at}
-use Rattle.lines.specs.declared.Line.{Line}
-use Rattle.lines.specs.declared.Line.TheVariants as line
-use Rattle.lines.specs.declared.Rows.{Rows}
-use Rattle.lines.specs.declared.Rows.TheVariants as rows
 use Rattle.lines.specs.Printed.{row_key}
 
 -- ---- the numbers of a line
@@ -30,9 +25,9 @@ before v (all vs next) = all (v ∷ vs) next
 before v (cut vs) = cut (v ∷ vs)
 
 -- a number, if one was read, and then what follows it
-unfoldable pub then : Parsed → (ℕ → Numbers) → Numbers
-then Bad f = cut []
-then (Value v next) f = before v (f next)
+unfoldable pub then : Option Parsed → (ℕ → Numbers) → Numbers
+then None f = cut []
+then (Some p) f = before p.value (f p.next)
 
 -- `left` numbers from position i on
 unfoldable pub values_at : List ℕ → ℕ → ℕ → Numbers
@@ -44,8 +39,8 @@ abbrev pub line_at : List ℕ → List ℕ → ℕ → ℕ → Numbers
 line_at text key count i = cond (starts_at text i key) (values_at text count (i + length key)) (cut [])
 
 -- a line with one number
-abbrev pub head_at : List ℕ → List ℕ → ℕ → Parsed
-head_at text key i = cond (starts_at text i key) (item_at text 10 (i + length key)) Bad
+abbrev pub head_at : List ℕ → List ℕ → ℕ → Option Parsed
+head_at text key i = cond (starts_at text i key) (item_at text 10 (i + length key)) None
 
 -- ---- the rows
 
@@ -72,9 +67,9 @@ rows_at text width (suc k) line i = then_rows (line_at text row_key width i) lin
 -- ---- what is told of them, and what is stored
 
 -- the position after a line, if it is in form
-abbrev pub told_line : Numbers → Line
-told_line (all vs next) = line.Good next
-told_line (cut vs) = line.Bad
+abbrev pub told_line : Numbers → Option ℕ
+told_line (all vs next) = Some next
+told_line (cut vs) = None
 
 -- the numbers that were read, up to a fault
 abbrev pub numbers_of : Numbers → List ℕ
@@ -82,14 +77,14 @@ numbers_of (all vs next) = vs
 numbers_of (cut vs) = vs
 
 -- these numbers stand from `from` on; everything else is as it was
-pub record Stored (v : Numbers) (out : List ℕ) (from : ℕ) (r : Line) (out' : List ℕ) : Type 0 where
+pub record Stored (v : Numbers) (out : List ℕ) (from : ℕ) (r : Option ℕ) (out' : List ℕ) : Type 0 where
   pub told : r ≡ told_line v
   pub list : out' ≡ sets out from (numbers_of v)
 
 -- the position after the rows, if they are in form, or the first line that is not
-abbrev pub told_rows : Table → Rows
-told_rows (whole rs next) = rows.All next
-told_rows (wrong line vs) = rows.Wrong line
+abbrev pub told_rows : Table → Result ℕ ℕ
+told_rows (whole rs next) = Ok next
+told_rows (wrong line vs) = Err line
 
 -- their numbers one after another, up to a fault
 abbrev pub cells_of : Table → List ℕ
@@ -97,6 +92,6 @@ cells_of (whole rs next) = flatten rs
 cells_of (wrong line vs) = vs
 
 -- the same for the rows
-pub record StoredRows (t : Table) (out : List ℕ) (from : ℕ) (r : Rows) (out' : List ℕ) : Type 0 where
+pub record StoredRows (t : Table) (out : List ℕ) (from : ℕ) (r : Result ℕ ℕ) (out' : List ℕ) : Type 0 where
   pub told : r ≡ told_rows t
   pub list : out' ≡ sets out from (cells_of t)

@@ -7,65 +7,48 @@ ghost use Rattle.lines.specs.Lines.{mark_of, values_at, head_at, line_at, rows_a
 
 use numbers::Parsed;
 
-// The position after a line in form.
-#[derive(Clone, Copy)]
-pub enum Line {
-    Good(usize),
-    Bad,
-}
-
-// The position after all rows, or the number of the first line that is not in form.
-#[derive(Clone, Copy)]
-pub enum Rows {
-    All(usize),
-    Wrong(u32),
-}
-
 // The byte after a number with which `left` numbers are left: a comma, and LF after the last.
 fn mark(left: usize) -> u8
     ensures { result ≡ mark_of left }
 {
-    if left == 1 { 10 } else { 44 }
+    if left == 1 { b'\n' } else { b',' }
 }
 
 // Reads `count` numbers at `at` and stores them from `from` on. A number takes two bytes or more, so the list has room for those of any sheet.
-fn values(text: &[u8], at: usize, count: usize, out: &mut [u16; 16384], from: usize) -> Line
+// The answer is the position after them, if they are in form.
+fn values(
+    text: &[u8],
+    at: usize,
+    count: usize,
+    out: &mut [u16; 16384],
+    from: usize,
+) -> Option<usize>
     requires { (2 * from ≤ at) × (length text.now ≤ 32768) }
     ensures { Stored (values_at text.now count at) out.old from result out.new }
 {
-    let mut i = at;
-    let mut put = from;
-    let mut left = count;
-    while 0 < left {
-        let got = numbers::item(text, i, mark(left));
-        match got {
-            Parsed::Bad => {
-                return Line::Bad;
-            }
-            Parsed::Value(v, next) => {
-                out[put] = v;
-                put += 1;
-                i = next;
-                left -= 1;
-            }
-        }
+    let mut next = at;
+    for k in 0..count {
+        let item = numbers::item(text, next, mark(count - k))?;
+        out[from + k] = item.value;
+        next = item.next;
     }
-    Line::Good(i)
+    Some(next)
 }
 
 // The one number of the line at `at` that has this key.
-pub fn head(text: &[u8], at: usize, key: &[u8]) -> Parsed
+pub fn head(text: &[u8], at: usize, key: &[u8]) -> Option<Parsed>
     requires { (at ≤ 32768) × (length key.now ≤ 64) }
     ensures { result ≡ head_at text.now key.now at }
 {
     if numbers::starts(text, at, key) {
-        numbers::item(text, at + key.len(), 10)
+        numbers::item(text, at + key.len(), b'\n')
     } else {
-        Parsed::Bad
+        None
     }
 }
 
-// Reads the line at `at` that has this key and `count` numbers, and stores them from `from` on.
+// Reads the line at `at` that has this key and `count` numbers, and stores them from `from` on. The answer is the position after the line, if it is
+// in form.
 pub fn read_line(
     text: &[u8],
     at: usize,
@@ -73,18 +56,19 @@ pub fn read_line(
     count: usize,
     out: &mut [u16; 16384],
     from: usize,
-) -> Line
+) -> Option<usize>
     requires { (2 * from ≤ at) × (length text.now ≤ 32768) × (at ≤ 32768) × (length key.now ≤ 64) }
     ensures { Stored (line_at text.now key.now count at) out.old from result out.new }
 {
     if numbers::starts(text, at, key) {
         values(text, at + key.len(), count, out, from)
     } else {
-        Line::Bad
+        None
     }
 }
 
-// Reads `count` rows of `width` numbers at `at`, the first of them line `first` of the sheet, and stores their numbers from `from` on.
+// Reads `count` rows of `width` numbers at `at`, the first of them line `first` of the sheet, and stores their numbers from `from` on. The answer is
+// the position after them, or the number of the first line that is not in form.
 pub fn read_rows(
     text: &[u8],
     at: usize,
@@ -93,27 +77,15 @@ pub fn read_rows(
     first: u32,
     out: &mut [u16; 16384],
     from: usize,
-) -> Rows
+) -> Result<usize, u32>
     requires { (2 * from ≤ at) × (length text.now ≤ 32768) × (at ≤ 32768) × (0 < width) × (count + first ≤ 4096) }
     ensures { StoredRows (rows_at text.now width count first at) out.old from result out.new }
 {
-    let mut i = at;
+    let mut next = at;
     let mut put = from;
-    let mut left = count;
-    let mut line = first;
-    while 0 < left {
-        let got = read_line(text, i, b"row=", width, out, put);
-        match got {
-            Line::Bad => {
-                return Rows::Wrong(line);
-            }
-            Line::Good(next) => {
-                put += width;
-                i = next;
-                left -= 1;
-                line += 1;
-            }
-        }
+    for k in 0..count {
+        next = read_line(text, next, b"row=", width, out, put).ok_or(first + k as u32)?;
+        put += width;
     }
-    Rows::All(i)
+    Ok(next)
 }

@@ -7,13 +7,13 @@ use Prim.Native.Nat.{ℕ, suc, ◌+◌, ◌-◌, ◌≤◌, ◌<◌}
 use native.Mathlib.Decide.{dec_le}
 use native.Mathlib.Numerals.{add-one}
 use native.Mathlib.Omega.{arith}
-use lib.ListN.{length, get_or, take, set, length-set}
+use lib.ListN.{length, get_or, take, set, replicate, length-set}
 use lib.Seq.{get_or-take, length-take-le, take-suc-set}
 use Rattle.parsimony.specs.Lists.{choose}
 use Rattle.parsimony.specs.Table.{descendants}
 use Rattle.parsimony.proofs.Tables.Trees.{Tree}
 use Rattle.shapes.specs.Filling.{Orders}
-use Rattle.orders.specs.Orders.{put_at, place_after, Listed}
+use Rattle.orders.specs.Orders.{put_at, place_after, Orderable, Listed}
 use Rattle.orders.proofs.Queues.{put_if, Queue, begins, room-first, room-second, next_turn, is_order}
 
 -- ---- its first k entries
@@ -46,26 +46,32 @@ module _ (n δ : ℕ) (left right : List ℕ) where
     pub fills : filled ≤ 254
     pub queue : (tree : List ℕ) (ρ : ℕ) (O : Orders n δ tree ρ left right) → Queue (tree_of tree ρ O) next (take filled order)
 
-  pub turning_begins : (order : List ℕ) → length order ≡ 254 → Turning (set order 0 δ) 1 0
-  turning_begins order l =
+  pub turning_begins : Turning (set (replicate 254 0) 0 δ) 1 0
+  turning_begins =
       record {
-        long = length-set order 0 δ ∙ l;
+        long = refl;
         fills = omega arith;
-        queue = λ tree ρ O. subst (Queue (tree_of tree ρ O) 0) (sym (take-suc-set order 0 δ (omega arith))) (begins (tree_of tree ρ O));
+        queue = λ tree ρ O. begins (tree_of tree ρ O);
       }
 
-  module _ (order : List ℕ) (filled next : ℕ) (R : Turning order filled next) where
-    abbrev ks : List ℕ
-    ks = take filled order
+module _ {n δ : ℕ} {left right order : List ℕ} {filled next : ℕ} (R : Turning n δ left right order filled next) where
+  abbrev ks : List ℕ
+  ks = take filled order
 
-    size : length ks ≡ filled
-    size = length-take-le filled order (omega (arith, R.fills, R.long))
+  size : length ks ≡ filled
+  size = length-take-le filled order (omega (arith, R.fills, R.long))
 
-    -- the node whose turn it is, and its two descendants
-    module _ (tree : List ℕ) (ρ : ℕ) (O : Orders n δ tree ρ left right) (h : next < filled) (v a b : ℕ) (e : v ≡ get_or order next 0)
-        (p : a ≡ get_or left (v - n - 1) 0) (q : b ≡ get_or right (v - n - 1) 0) where
+  -- the node whose turn it is, and its two descendants
+  module _ (h : next < filled) {v : ℕ} (e : v ≡ get_or order next 0) where
+    abbrev a : ℕ
+    a = get_or left (v - n - 1) 0
+
+    abbrev b : ℕ
+    b = get_or right (v - n - 1) 0
+
+    module _ (tree : List ℕ) (ρ : ℕ) (O : Orders n δ tree ρ left right) where
       abbrev T : Tree
-      T = tree_of tree ρ O
+      T = tree_of n δ left right tree ρ O
 
       turn : next < length ks
       turn = omega (arith, size)
@@ -73,13 +79,13 @@ module _ (n δ : ℕ) (left right : List ℕ) where
       node_is : get_or ks next 0 ≡ v
       node_is = get_or-take filled order next 0 h ∙ sym e
 
-      pub node-inner : (n < v) × (v ≤ length tree)
+      node-inner : (n < v) × (v ≤ length tree)
       node-inner = subst (λ u. (n < u) × (u ≤ length tree)) node_is ((R.queue tree ρ O).inner next turn)
 
       fork : descendants tree (get_or ks next 0) ≡ a ∷ b ∷ []
       fork =
           ap (descendants tree) node_is ∙ O.shape v node-inner.0 node-inner.1
-          ∙ ap₂ (λ x y. x ∷ y ∷ []) (ap (λ k. get_or left k 0) place ∙ sym p) (ap (λ k. get_or right k 0) place ∙ sym q)
+          ∙ ap₂ (λ x y. x ∷ y ∷ []) (ap (λ k. get_or left k 0) place) (ap (λ k. get_or right k 0) place)
         where
           place : v - suc n ≡ v - n - 1
           place = omega arith
@@ -87,7 +93,7 @@ module _ (n δ : ℕ) (left right : List ℕ) where
       nodes : length tree - n ≤ 254
       nodes = omega (arith, O.sized.nodes, O.sized.most)
 
-      pub first-room : n < a → filled < 254
+      first-room : n < a → filled < 254
       first-room l = omega (arith, room-first T next ks (R.queue tree ρ O) turn a b fork l, size, nodes)
 
       first-list : take (place_after n a filled) (put_at n a filled order) ≡ put_if n a ks
@@ -96,10 +102,7 @@ module _ (n δ : ℕ) (left right : List ℕ) where
       first_place : (place_after n a filled ≤ length order) × (length (put_at n a filled order) ≡ length order)
       first_place = put_place n a filled order (λ l. omega (arith, first-room l, R.long)) (omega (arith, R.fills, R.long))
 
-      pub first-long : length (put_at n a filled order) ≡ 254
-      first-long = first_place.1 ∙ R.long
-
-      pub second-room : n < b → place_after n a filled < 254
+      second-room : n < b → place_after n a filled < 254
       second-room l =
           omega (
             arith,
@@ -109,36 +112,52 @@ module _ (n δ : ℕ) (left right : List ℕ) where
             nodes,
           )
 
-      pub place_most : place_after n a filled ≤ 254
-      place_most = omega (arith, first_place.0, R.long)
+    -- where there is such a table, the two are put
+    module _ (G : Orderable n δ left right) where
+      pub above : n < v
+      above = (node-inner G.tree G.ρ G.orders).0
 
-    -- one turn more
-    pub turning_on : (a b v : ℕ) → v ≡ get_or order next 0 → a ≡ get_or left (v - n - 1) 0 → b ≡ get_or right (v - n - 1) 0 → next < filled
-        → ((n < a → filled < 254) × (n < b → place_after n a filled < 254))
-        → Turning (put_at n b (place_after n a filled) (put_at n a filled order)) (place_after n b (place_after n a filled)) (next + 1)
-    turning_on a b v e p q h (ra, rb) =
-        let one = put_place n a filled order (λ l. omega (arith, ra l, R.long)) (omega (arith, R.fills, R.long)) in
-        let two = put_place n b (place_after n a filled) (put_at n a filled order) (λ l. omega (arith, rb l, one.1, R.long))
-        (omega (arith, one.0, one.1)) in
-        record {
-          long = two.1 ∙ one.1 ∙ R.long;
-          fills = omega (arith, two.0, one.1, R.long);
-          queue = λ tree ρ O.
-              subst (Queue (tree_of tree ρ O) (next + 1))
-              (sym (put_list n b (place_after n a filled) (put_at n a filled order) (λ l. omega (arith, rb l, one.1, R.long))
-              ∙ ap (put_if n b) (first-list tree ρ O h v a b e p q)))
-              (next_turn (tree_of tree ρ O) next ks (R.queue tree ρ O) (turn tree ρ O h v a b e p q) a b (fork tree ρ O h v a b e p q));
-        }
+      pub has-place : v - n - 1 < 254
+      has-place = omega (arith, node-inner G.tree G.ρ G.orders, nodes G.tree G.ρ G.orders)
 
-    pub turned_on : (a b v : ℕ) → v ≡ get_or order next 0 → a ≡ get_or left (v - n - 1) 0 → b ≡ get_or right (v - n - 1) 0 → next < filled
-        → ((n < a → filled < 254) × (n < b → place_after n a filled < 254)) → (order₁ order₂ : List ℕ) (filled₁ filled₂ : ℕ)
-        → (order₁ ≡ put_at n a filled order) × (filled₁ ≡ place_after n a filled) → (order₂ ≡ put_at n b filled₁ order₁)
-        × (filled₂ ≡ place_after n b filled₁)
-        → Turning order₂ filled₂ (next + 1)
-    turned_on a b v e p q h r order₁ order₂ filled₁ filled₂ (w₁, f₁) (w₂, f₂) = rw w₂ (rw f₂ (rw w₁ (rw f₁ (turning_on a b v e p q h r))))
+      pub first-puts : (length order ≡ 254) × (n < a → filled < 254)
+      first-puts = (R.long, first-room G.tree G.ρ G.orders)
 
-    -- the last turn
-    pub turning_ends : filled ≤ next → Listed n δ left right order
-    turning_ends h tree ρ O =
-        is_order (tree_of tree ρ O) next ks (R.queue tree ρ O) (omega (arith, size, (R.queue tree ρ O).turns)) order O.sized.nodes
-        O.sized.least (λ j l. sym (get_or-take filled order j 0 (omega (arith, size))))
+      long₁ : length (put_at n a filled order) ≡ 254
+      long₁ = (first_place G.tree G.ρ G.orders).1 ∙ R.long
+
+      most₁ : place_after n a filled ≤ 254
+      most₁ = omega (arith, (first_place G.tree G.ρ G.orders).0, R.long)
+
+      module _ {order₁ : List ℕ} {filled₁ : ℕ} (P : (order₁ ≡ put_at n a filled order) × (filled₁ ≡ place_after n a filled)) where
+        pub second-puts : (length order₁ ≡ 254) × (n < b → filled₁ < 254)
+        second-puts = (ap length P.0 ∙ long₁, λ l. omega (arith, P.1, second-room G.tree G.ρ G.orders l))
+
+        -- one turn more
+        pub turned : {order₂ : List ℕ} {filled₂ : ℕ} → (order₂ ≡ put_at n b filled₁ order₁) × (filled₂ ≡ place_after n b filled₁)
+            → Turning n δ left right order₂ filled₂ (next + 1)
+        turned Q = rw Q.0 (rw Q.1 (rw P.0 (rw P.1 on)))
+          where
+            room₂ : n < b → place_after n a filled < length (put_at n a filled order)
+            room₂ l = omega (arith, second-room G.tree G.ρ G.orders l, long₁)
+
+            two : (place_after n b (place_after n a filled) ≤ length (put_at n a filled order))
+                × (length (put_at n b (place_after n a filled) (put_at n a filled order)) ≡ length (put_at n a filled order))
+            two = put_place n b (place_after n a filled) (put_at n a filled order) room₂ (omega (arith, most₁, long₁))
+
+            on : Turning n δ left right (put_at n b (place_after n a filled) (put_at n a filled order)) (place_after n b (place_after n a filled)) (next + 1)
+            on =
+                record {
+                  long = two.1 ∙ long₁;
+                  fills = omega (arith, two.0, long₁);
+                  queue = λ tree ρ O.
+                      subst (Queue (T tree ρ O) (next + 1))
+                      (sym (put_list n b (place_after n a filled) (put_at n a filled order) room₂ ∙ ap (put_if n b) (first-list tree ρ O)))
+                      (next_turn (T tree ρ O) next ks (R.queue tree ρ O) (turn tree ρ O) a b (fork tree ρ O));
+                }
+
+  -- the last turn
+  pub turning_ends : filled ≤ next → Listed n δ left right order
+  turning_ends h tree ρ O =
+      is_order (tree_of n δ left right tree ρ O) next ks (R.queue tree ρ O) (omega (arith, size, (R.queue tree ρ O).turns)) order O.sized.nodes
+      O.sized.least (λ j l. sym (get_or-take filled order j 0 (omega (arith, size))))

@@ -22,12 +22,11 @@ put_at n a k order = choose (dec_le a n) order (set order k a)
 abbrev pub place_after : (n a k : ℕ) → ℕ
 place_after n a k = choose (dec_le a n) k (k + 1)
 
--- there is a table that has these lists of descendants, and the list has room for the most interior nodes there can be
-pub record Orderable (n δ : ℕ) (left right order : List ℕ) : Type 0 where
+-- there is a table that has these lists of descendants
+pub record Orderable (n δ : ℕ) (left right : List ℕ) : Type 0 where
   pub tree : List ℕ
   pub ρ : ℕ
   pub orders : Orders n δ tree ρ left right
-  pub long : length order ≡ 254
 
 -- what the list holds, in any such table
 abbrev pub Listed : (n δ : ℕ) (left right order : List ℕ) → Type 0

@@ -1,12 +1,13 @@
 -- Writing, a byte or a piece at a time.
 -- Assumes nothing.
 use mathlib.Core.Path.{◌≡◌, refl, sym, ap, ◌∙◌}
-use mathlib.Core.List.{List, [], ◌∷◌, ◌++◌}
-use Prim.Native.Nat.{ℕ, suc, ◌+◌, ◌/◌, ◌%◌, ◌≤◌, ◌<◌}
+use mathlib.Core.List.{List, [], ◌∷◌, ◌++◌, append_assoc}
+use Prim.Native.Nat.{ℕ, suc, ◌+◌, ◌-◌, ◌/◌, ◌%◌, ◌≤◌, ◌<◌}
 use native.Mathlib.Omega.{arith}
 use native.Mathlib.Numerals.{add-one}
 use lib.ListN.{length, set, take, get_or, drop, drop_of_length-le, length-append}
-use lib.Seq.{sets, sets-eq, take-suc, length-take-le, take-length, drop-cons}
+use lib.Seq.{sets, sets-eq, take-length, drop-drop, drop-cons}
+use borrow.Rule.Slice.PartMut.{put_mid}
 use Rattle.numbers.specs.Printed.{decimal, continued, commas}
 use Rattle.numbers.proofs.Lists.{sets_append}
 use Rattle.numbers.proofs.Round.{decimal_split, decimal-one}
@@ -49,32 +50,29 @@ written-more before mid at next n h f =
     rw (decimal_split n h) (written_both (decimal (n / 10)) ((48 + n % 10) ∷ []) before mid _ at next (next + 1) f
     (written_byte mid next (48 + n % 10)))
 
--- one byte more of a text
-pub bytes_more : (out before : List ℕ) (at : ℕ) (text : List ℕ) (k : ℕ) → k < length text → out ≡ sets before at (take k text)
-    → set out (at + k) (get_or text k 0) ≡ sets before at (take (k + 1) text)
-bytes_more out before at text k h e =
-    let one : take (k + 1) text ≡ take k text ++ (get_or text k 0 ∷ []) = rw (add-one k) (take-suc text k 0 h) in
-    let size : length (take k text) ≡ k = length-take-le k text (omega arith) in
-    sym (ap (sets before at) one ∙ sets_append (take k text) before at (get_or text k 0 ∷ [])
-    ∙ ap (λ (m : ℕ). set (sets before at (take k text)) (at + m) (get_or text k 0)) size ∙ ap (λ (l : List ℕ). set l (at + k) (get_or text k 0))
-    (sym e))
-
-pub bytes_all : (out before : List ℕ) (at : ℕ) (text : List ℕ) (k : ℕ) → k ≤ length text → length text ≤ k → out ≡ sets before at (take k text)
-    → Written before out at (at + k) text
-bytes_all out before at text k h g e =
-    let same : k ≡ length text = omega arith in
+-- a text copied over a part of the list
+pub written_part : (before text part : List ℕ) (at k : ℕ) → at + length text ≤ length before → part ≡ text → k ≡ length text
+    → Written before (put_mid at k before part) at (at + length text) text
+written_part before text part at k room e size =
     record {
       list =
-          e ∙ ap (λ (m : ℕ). sets before at (take m text)) same ∙ ap (sets before at) (take-length text);
-      next_is = ap (λ (m : ℕ). at + m) same;
+          ap (λ (l : List ℕ). put_mid at k before l) e
+          ∙ ap (λ (l : List ℕ). take at before ++ (text ++ l)) (drop-drop k at before ∙ ap (λ (m : ℕ). drop (at + m) before) size)
+          ∙ sym (append_assoc (take at before) text (drop (at + length text) before))
+          ∙ sym (sets-eq text before at room);
+      next_is = refl;
     }
 
 -- numbers with commas between
 
-pub commas-first : (vs : List ℕ) → 0 < length vs → commas vs ≡ decimal (get_or vs 0 0) ++ continued (drop 1 vs)
+-- those after the first, as a slice of the list
+abbrev pub rest : List ℕ → List ℕ
+rest vs = take (length vs - 1) (drop 1 vs)
+
+pub commas-first : (vs : List ℕ) → 0 < length vs → commas vs ≡ decimal (get_or vs 0 0) ++ continued (rest vs)
 unfolding commas
 commas-first [] h = absurd (omega arith)
-commas-first (v ∷ vs) h = refl
+commas-first (v ∷ vs) h = ap (λ (l : List ℕ). decimal v ++ continued l) (sym (ap (λ (m : ℕ). take m vs) (omega arith) ∙ take-length vs))
 
 pub continued-step : (vs : List ℕ) (k : ℕ) → k < length vs → continued (drop k vs) ≡ 44 ∷ (decimal (get_or vs k 0) ++ continued (drop (k + 1) vs))
 unfolding continued
@@ -84,10 +82,10 @@ pub continued_end : (vs : List ℕ) (k : ℕ) → length vs ≤ k → continued 
 unfolding continued
 continued_end vs k h = rw (drop_of_length-le vs h)
 
-pub commas-length : (vs : List ℕ) (v : ℕ) → v ≡ get_or vs 0 0 → 0 < length vs → length (commas vs) ≡ length (decimal v) + length (continued (drop 1 vs))
+pub commas-length : (vs : List ℕ) (v : ℕ) → v ≡ get_or vs 0 0 → 0 < length vs → length (commas vs) ≡ length (decimal v) + length (continued (rest vs))
 commas-length vs v e h =
-    ap length (commas-first vs h) ∙ length-append (decimal (get_or vs 0 0)) (continued (drop 1 vs))
-    ∙ ap (λ (u : ℕ). length (decimal u) + length (continued (drop 1 vs))) (sym e)
+    ap length (commas-first vs h) ∙ length-append (decimal (get_or vs 0 0)) (continued (rest vs))
+    ∙ ap (λ (u : ℕ). length (decimal u) + length (continued (rest vs))) (sym e)
 
 pub continued-length : (vs : List ℕ) (k v : ℕ) → v ≡ get_or vs k 0 → k < length vs → length (continued (drop k vs))
     ≡ 1 + (length (decimal v) + length (continued (drop (k + 1) vs)))
@@ -111,17 +109,17 @@ continued-written vs k v out out' i i' e h w =
     ∙ ap (λ (j : ℕ). sets out' j m) (sym w.next_is)
 
 pub commas-written :
-    (vs : List ℕ) (k v : ℕ) (before mid out : List ℕ) (at next i : ℕ) → v ≡ get_or vs 0 0 → 0 < length vs → length vs ≤ k
+    (vs : List ℕ) (k v : ℕ) (before mid out : List ℕ) (at next i : ℕ) → v ≡ get_or vs 0 0 → 0 < length vs → length (rest vs) ≤ k
     → Written before mid at next (decimal v) →
-    sets mid next (continued (drop 1 vs)) ≡ sets out i (continued (drop k vs)) → next + length (continued (drop 1 vs))
-    ≡ i + length (continued (drop k vs)) → Written before out at i (commas vs)
+    sets mid next (continued (rest vs)) ≡ sets out i (continued (drop k (rest vs))) → next + length (continued (rest vs))
+    ≡ i + length (continued (drop k (rest vs))) → Written before out at i (commas vs)
 commas-written vs k v before mid out at next i e h g w f s =
-    let over : continued (drop k vs) ≡ [] = continued_end vs k g in
-    let none : length (continued (drop k vs)) ≡ 0 = ap length over in
-    let all : Written before out at i (decimal v ++ continued (drop 1 vs)) =
-    written_both (decimal v) (continued (drop 1 vs)) before mid out at next i w (record {
+    let over : continued (drop k (rest vs)) ≡ [] = continued_end (rest vs) k g in
+    let none : length (continued (drop k (rest vs))) ≡ 0 = ap length over in
+    let all : Written before out at i (decimal v ++ continued (rest vs)) =
+    written_both (decimal v) (continued (rest vs)) before mid out at next i w (record {
       list =
           ap (sets out i) (sym over) ∙ sym f;
       next_is = omega arith;
     }) in
-    rw (commas-first vs h ∙ ap (λ (u : ℕ). decimal u ++ continued (drop 1 vs)) (sym e)) all
+    rw (commas-first vs h ∙ ap (λ (u : ℕ). decimal u ++ continued (rest vs)) (sym e)) all

@@ -11,11 +11,11 @@ pub fn put_number(out: &mut [u8], at: usize, v: u32) -> usize
     ensures { Written out.old out.new at result (decimal v) }
 {
     if v < 10 {
-        out[at] = 48 + v as u8;
+        out[at] = b'0' + v as u8;
         return at + 1;
     }
     let next = put_number(out, at, v / 10);
-    out[next] = 48 + (v % 10) as u8;
+    out[next] = b'0' + (v % 10) as u8;
     next + 1
 }
 
@@ -24,18 +24,9 @@ pub fn put_bytes(out: &mut [u8], at: usize, text: &[u8]) -> usize
     requires { at + length text.now ≤ length out.old }
     ensures { Written out.old out.new at result text.now }
 {
-    let mut k: usize = 0;
-    while k < text.len() {
-        out[at + k] = text[k];
-        k += 1;
-    }
-    at + k
-}
-
-fn wide(x: u16) -> u32
-    ensures { result ≡ x }
-{
-    x as u32
+    let end = at + text.len();
+    out[at..end].copy_from_slice(text);
+    end
 }
 
 // Writes these numbers, with commas between.
@@ -43,12 +34,10 @@ pub fn put_numbers(out: &mut [u8], at: usize, values: &[u16]) -> usize
     requires { (0 < length values.now) × (at + length (commas values.now) ≤ length out.old) }
     ensures { Written out.old out.new at result (commas values.now) }
 {
-    let mut next = put_number(out, at, wide(values[0]));
-    let mut k: usize = 1;
-    while k < values.len() {
-        out[next] = 44;
-        next = put_number(out, next + 1, wide(values[k]));
-        k += 1;
+    let mut next = put_number(out, at, u32::from(values[0]));
+    for v in &values[1..] {
+        out[next] = b',';
+        next = put_number(out, next + 1, u32::from(*v));
     }
     next
 }

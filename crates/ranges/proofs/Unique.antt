@@ -1,5 +1,5 @@
 -- A join has one result: two structs that a contract of this crate allows are the same struct.
--- The contracts of `cost`, `smaller` and `larger` are equations for the result, so these have one result as they stand.
+-- The contract of `cost` is an equation for the result, so it has one result as it stands.
 -- Assumes nothing.
 use mathlib.Core.Path.{◌≡◌, sym, ◌∙◌}
 use mathlib.Core.List.{List}

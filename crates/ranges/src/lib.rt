@@ -14,20 +14,6 @@ pub struct Range {
     pub high: u16,
 }
 
-// The smaller of two states.
-pub fn smaller(a: u16, b: u16) -> u16
-    ensures { result ≡ Prim.Native.Nat.min a b }
-{
-    if a < b { a } else { b }
-}
-
-// The larger of two states.
-pub fn larger(a: u16, b: u16) -> u16
-    ensures { result ≡ Prim.Native.Nat.max a b }
-{
-    if a < b { b } else { a }
-}
-
 // The join of two ranges: their overlap if they meet; else the gap from the nearer end of one to the nearer end of the other, both included.
 pub fn join(a: Range, b: Range) -> Range
     requires { IsRange a × IsRange b }

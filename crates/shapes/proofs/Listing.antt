@@ -7,12 +7,13 @@ use Prim.Native.Nat.{ℕ, zero, suc, ◌+◌, ◌-◌, ◌*◌, ◌≤◌, ◌<�
 use native.Mathlib.Decide.{ℕ_discrete, dec_le}
 use native.Mathlib.Numerals.{add-one}
 use native.Mathlib.Omega.{arith}
-use lib.ListN.{length, get_or, set, length-set}
+use lib.ListN.{length, get_or, set, replicate, length-set}
 use lib.Seq.{get_or-set_same, get_or-set_other}
 use Rattle.parsimony.specs.Lists.{from, choose}
 use Rattle.parsimony.specs.Table.{ancestor, having, descendants}
 use Rattle.parsimony.specs.Character.{at_node}
-use Rattle.parsimony.proofs.Sums.{All, all_from, from_more, choose_yes, choose_no}
+use Rattle.parsimony.proofs.Sums.{All, all_from, from_more, zeros, choose_yes, choose_no}
+use Rattle.trees.specs.Answers.{Sized}
 use Rattle.shapes.specs.Shape.{Filled}
 use Rattle.shapes.specs.Filling.{first_of, left_with, right_with, Fillable}
 use Rattle.parsimony.proofs.Tables.Descendants.{entry_at}
@@ -126,13 +127,17 @@ module _ (n : ℕ) (tree : List ℕ) where
     pub firsts : (v : ℕ) → n < v → v ≤ length tree → at_node n left v ≡ first (met tree k v)
     pub lasts : (v : ℕ) → n < v → v ≤ length tree → 1 ≤ length (met tree k v) → at_node n right v ≡ last (met tree k v)
 
-  pub lists-none : (left right : List ℕ) → Fillable n tree left right → ListsTo 0 left right
+  -- an entry is a node, so the lists have its place
+  pub entry-most : Fillable n tree → (k : ℕ) → get_or tree k 0 ≤ n + 254
+  entry-most F k = omega (arith, entry_at tree k, F.within (k + 1), F.sized.nodes, F.sized.most)
+
+  pub lists-none : ListsTo 0 (replicate 254 0) (replicate 254 0)
   unfolding having first
-  lists-none left right F =
+  lists-none =
       record {
-        lefts = F.lefts;
-        rights = F.rights;
-        firsts = λ v lo hi. F.blank (v - suc n);
+        lefts = refl;
+        rights = refl;
+        firsts = λ v lo hi. zeros 254 (v - suc n);
         lasts = λ v lo hi h. let z : ⊥ = omega arith in absurd z;
       }
 
@@ -201,16 +206,15 @@ module _ (n : ℕ) (tree : List ℕ) where
             ∙ sym (ap last (met_no tree k v (λ q. r (q ∙ sym e))))
 
   -- the same, of lists that were written so
-  pub lists-after : (k a : ℕ) (left right left' right' : List ℕ) → a ≡ get_or tree k 0 → length tree ≡ 2 * n - 2 → n ≤ 256 → ListsTo k left right
-      → left' ≡ left_with n a (k + 1) left → right' ≡ right_with n a (k + 1) right → ListsTo (k + 1) left' right'
-  lists-after k a left right left' right' e S M H l r =
+  pub lists-after : {k a : ℕ} {left right left' right' : List ℕ} → a ≡ get_or tree k 0 → Sized n tree → ListsTo k left right
+      → (left' ≡ left_with n a (k + 1) left) × (right' ≡ right_with n a (k + 1) right) → ListsTo (k + 1) left' right'
+  lists-after {k} {a} {left} {right} {left'} {right'} e S H (l, r) =
       subst (λ xs. ListsTo (k + 1) xs right') (sym l)
-      (subst (λ ys. ListsTo (k + 1) (left_with n a (k + 1) left) ys) (sym r) (lists-more k a e left right S M H))
+      (subst (λ ys. ListsTo (k + 1) (left_with n a (k + 1) left) ys) (sym r) (lists-more k a e left right S.nodes S.most H))
 
-  pub lists-all : (k : ℕ) (left right : List ℕ) → k ≡ length tree
-      → ((v : ℕ) → n < v → v ≤ length tree → length (descendants tree v) ≡ 2) → ListsTo k left right → Filled n tree left right
-  lists-all k left right q two H v lo hi =
+  pub lists-all : {k : ℕ} {left right : List ℕ} → k ≡ length tree → Fillable n tree → ListsTo k left right → Filled n tree left right
+  lists-all {k} {left} {right} q F H v lo hi =
       let m : met tree k v ≡ descendants tree v = ap (λ j. met tree j v) q in
-      let t : length (met tree k v) ≡ 2 = ap length m ∙ two v lo hi in
+      let t : length (met tree k v) ≡ 2 = ap length m ∙ F.two v lo hi in
       sym m ∙ two_are (met tree k v) t
       ∙ ap₂ (λ x y. x ∷ y ∷ []) (sym (H.firsts v lo hi)) (sym (H.lasts v lo hi (omega arith)))

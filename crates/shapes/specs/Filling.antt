@@ -20,14 +20,11 @@ left_with n a node left = choose (dec_le a n) left (set left (a - n - 1) (first_
 abbrev pub right_with : (n a node : ℕ) → List ℕ → List ℕ
 right_with n a node right = choose (dec_le a n) right (set right (a - n - 1) node)
 
--- the table has two descendants at each interior node, and the lists have room for the most there can be, all 0 in the first list
-pub record Fillable (n : ℕ) (tree left right : List ℕ) : Type 0 where
+-- the table has entries that are nodes, and two descendants at each interior node
+pub record Fillable (n : ℕ) (tree : List ℕ) : Type 0 where
   pub sized : Sized n tree
   pub within : (k : ℕ) → ancestor tree k ≤ length tree
   pub two : (v : ℕ) → n < v → v ≤ length tree → length (descendants tree v) ≡ 2
-  pub blank : (i : ℕ) → get_or left i 0 ≡ 0
-  pub lefts : length left ≡ 254
-  pub rights : length right ≡ 254
 
 -- the lists of descendants are those of an accepted table, whose root has the descendant δ
 pub record Orders (n δ : ℕ) (tree : List ℕ) (ρ : ℕ) (left right : List ℕ) : Type 0 where

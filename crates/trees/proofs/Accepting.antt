@@ -1,4 +1,4 @@
--- From a search that found a fault to its refusal, and from searches that found nothing to an accepted table.
+-- From searches that found nothing to an accepted table.
 -- Assumes nothing.
 use mathlib.Core.Path.{◌≡◌, refl, sym, ◌∙◌, ap}
 use mathlib.Core.Logic.{◌≢◌, inl, inr}
@@ -12,33 +12,11 @@ use Rattle.parsimony.specs.Table as table
 use Rattle.parsimony.specs.Table.{ancestor, descendants, climb}
 use Rattle.parsimony.proofs.Sums.{All, often, same_self, same_equal}
 use Rattle.parsimony.proofs.Tables.Descendants.{past_table, Descends, each_descends, often-descendants}
-use Rattle.refusals.specs.Search.{Lowest, Never}
-use Rattle.refusals.specs.Checks.{Refuses}
+use Rattle.refusals.specs.Search.{Never}
 use Rattle.roots.specs.Roots.{IsRoot, Named}
-use Rattle.faults.specs.Faults.{StrayEntry, WrongCount, Lost}
-use Rattle.faults.specs.Finding.{InTable}
+use Rattle.faults.specs.Faults.{StrayEntry, WrongCount}
 use Rattle.climbs.specs.Climbs.{Climbable, Reaches}
-use Rattle.trees.specs.Answers.{Sized, tree_faults}
-use Rattle.trees.proofs.Unique.{clear-zeros, clear-rooted}
-
-module _ (n : ℕ) (tree : List ℕ) (ρ k : ℕ) (R : IsRoot n tree ρ) where
-  pub refused_4 : Lowest (StrayEntry n tree ρ) (length tree) k → Refuses (tree_faults n tree) (record { number = 4; place = k })
-  refused_4 L = inr (clear-zeros n tree ρ R, inl (refl, (ρ, R, L)))
-
-  module _ (E : Never (StrayEntry n tree ρ) (length tree)) where
-    pub refused_5 : Lowest (WrongCount n tree ρ) (length tree) k → Refuses (tree_faults n tree) (record { number = 5; place = k })
-    refused_5 L = inr (clear-zeros n tree ρ R, inr (clear-rooted n tree 4 ρ (StrayEntry n tree) R E, inl (refl, (ρ, R, L))))
-
-    pub refused_6 : Never (WrongCount n tree ρ) (length tree) → Lowest (Lost tree ρ) (length tree) k
-        → Refuses (tree_faults n tree) (record { number = 6; place = k })
-    refused_6 C L =
-        inr (
-          clear-zeros n tree ρ R,
-          inr (
-            clear-rooted n tree 4 ρ (StrayEntry n tree) R E,
-            inr (clear-rooted n tree 5 ρ (WrongCount n tree) R C, inl (refl, (ρ, R, L))),
-          ),
-        )
+use Rattle.trees.specs.Answers.{Sized}
 
 module _ (n : ℕ) (tree : List ℕ) (ρ : ℕ) (S : Sized n tree) (R : IsRoot n tree ρ) (E : Never (StrayEntry n tree ρ) (length tree)) where
   pub few : length tree ≤ 510
@@ -52,9 +30,6 @@ module _ (n : ℕ) (tree : List ℕ) (ρ : ℕ) (S : Sized n tree) (R : IsRoot n
       go d (yes l) = l
       go (yes q) (no l) = absurd (E (suc i) (omega arith) q (inl (omega arith)))
       go (no q) (no l) = omega (arith, past_table tree (suc i) (omega arith))
-
-  pub in_table : InTable tree
-  in_table = record { few = few; within = within }
 
   pub climbable : Climbable ρ tree
   climbable =

@@ -1,11 +1,12 @@
 -- A tree table has one answer: it is accepted, or it is refused with one number and place.
 -- Assumes nothing.
-use mathlib.Core.Path.{◌≡◌, sym, ◌∙◌, ap, ap₂, subst}
+use mathlib.Core.Path.{◌≡◌, sym, ◌∙◌, ap, subst}
 use mathlib.Core.Logic.{◌≢◌, inl, inr, ⊎_elim, ◌↔◌}
 use mathlib.Core.List.{List, [], ◌∷◌}
 use Prim.Native.Nat.{ℕ, ◌-◌, ◌*◌, ◌≤◌, ◌<◌}
 use native.Mathlib.Omega.{arith}
 use lib.ListN.{length}
+use Rattle.std.specs.Prelude.{Result, Ok, Err}
 use Rattle.parsimony.specs.Table as table
 use Rattle.parsimony.specs.Table.{ancestor, descendants, climb}
 use Rattle.parsimony.proofs.Sums.{often, same_self}
@@ -17,8 +18,7 @@ use Rattle.refusals.proofs.Laws.{lowest-one, lowest_never}
 use Rattle.refusals.proofs.Order.{Sure, AllSure, sure_at, one-refusal, not_refused, clear_at, clear_slice}
 use Rattle.roots.specs.Roots.{IsRoot, StrayZero}
 use Rattle.faults.specs.Faults.{StrayEntry, WrongCount, Lost}
-use Rattle.trees.specs.declared.TreeAnswer.{TreeAnswer}
-use Rattle.trees.specs.declared.TreeAnswer.TheVariants.{Accepted, Refused}
+use Rattle.trees.specs.declared.Rooted.{Rooted}
 use Rattle.trees.specs.Answers.{Sized, TaxaOutside, zeros, rooted, tree_faults, tree_checks, Answers}
 
 -- n is within its limits
@@ -117,23 +117,26 @@ pub sure_checks : (n : ℕ) (tree : List ℕ) → AllSure (tree_checks n tree)
 sure_checks n tree = (sure_at 1 0 (TaxaOutside n tree), (sure_at 2 1 (length tree ≢ 2 * n - 2), sure_faults n tree))
 
 -- From the contract alone, any two answers about a table are equal.
-pub one_answer : (n : ℕ) (tree : List ℕ) (r r' : TreeAnswer) → Answers n tree r → Answers n tree r' → r ≡ r'
-one_answer n tree (Accepted ρ δ) (Accepted ρ' δ') (S, h) (S', h') = let (p, q) = one-shape n tree ρ δ h ρ' δ' h' in ap₂ Accepted p q
-one_answer n tree (Accepted ρ δ) (Refused r) (S, h) h' = absurd (not_refused (tree_checks n tree) (sized-passes n tree ρ δ S h) r h')
-one_answer n tree (Refused r) (Accepted ρ δ) h (S, h') = absurd (not_refused (tree_checks n tree) (sized-passes n tree ρ δ S h') r h)
-one_answer n tree (Refused r) (Refused r') h h' = ap Refused (one-refusal (tree_checks n tree) (sure_checks n tree) r r' h h')
+pub one_answer : (n : ℕ) (tree : List ℕ) (r r' : Result Rooted Refusal) → Answers n tree r → Answers n tree r' → r ≡ r'
+one_answer n tree (Ok a) (Ok a') (S, h) (S', h') =
+    let (p, q) = one-shape n tree a.root a.top h a'.root a'.top h' in
+    λ i. Ok (record { root = p i; top = q i })
+one_answer n tree (Ok a) (Err r) (S, h) h' = absurd (not_refused (tree_checks n tree) (sized-passes n tree a.root a.top S h) r h')
+one_answer n tree (Err r) (Ok a) h (S, h') = absurd (not_refused (tree_checks n tree) (sized-passes n tree a.root a.top S h') r h)
+one_answer n tree (Err r) (Err r') h h' = ap Err (one-refusal (tree_checks n tree) (sure_checks n tree) r r' h h')
 
 -- So a table of the right size that is accepted in the sense of the crate `parsimony` is answered so, and no other is.
-pub accepted_exactly : (n : ℕ) (tree : List ℕ) (r : TreeAnswer) (ρ δ : ℕ) → Answers n tree r
-    → (r ≡ Accepted ρ δ) ↔ (Sized n tree × table.Accepted n tree ρ δ)
+pub accepted_exactly : (n : ℕ) (tree : List ℕ) (r : Result Rooted Refusal) (ρ δ : ℕ) → Answers n tree r
+    → (r ≡ Ok (record { root = ρ; top = δ })) ↔ (Sized n tree × table.Accepted n tree ρ δ)
 accepted_exactly n tree r ρ δ h = (
   λ e. subst (Answers n tree) e h,
-  λ a. one_answer n tree r (Accepted ρ δ) h a,
+  λ a. one_answer n tree r (Ok (record { root = ρ; top = δ })) h a,
 )
 
 -- And one that has a fault is refused with the first of document 01's numbers that applies, at its place, and no other is.
-pub refused_exactly : (n : ℕ) (tree : List ℕ) (r : TreeAnswer) (q : Refusal) → Answers n tree r → (r ≡ Refused q) ↔ Refuses (tree_checks n tree) q
+pub refused_exactly : (n : ℕ) (tree : List ℕ) (r : Result Rooted Refusal) (q : Refusal) → Answers n tree r
+    → (r ≡ Err q) ↔ Refuses (tree_checks n tree) q
 refused_exactly n tree r q h = (
   λ e. subst (Answers n tree) e h,
-  λ a. one_answer n tree r (Refused q) h a,
+  λ a. one_answer n tree r (Err q) h a,
 )

@@ -1,13 +1,13 @@
--- What the answers about a tree table say, for each case of the enum; and the checks of document 01, in its order.
+-- What the answers about a tree table say, an accepted one's and a refused one's; and the checks of document 01, in its order.
 -- Assumes nothing.
-use Rattle.std.specs.Prelude.{◌≡◌, ◌⊎◌, List, [], ◌∷◌, ◌++◌, ℕ, ◌-◌, ◌*◌, ◌≤◌, ◌<◌, length}
+use Rattle.std.specs.Prelude.{◌≡◌, ◌⊎◌, List, [], ◌∷◌, ◌++◌, ℕ, ◌-◌, ◌*◌, ◌≤◌, ◌<◌, length, Result, Ok, Err}
 use Rattle.parsimony.specs.Table as table
+use Rattle.refusals.specs.declared.Refusal.{Refusal}
 use Rattle.refusals.specs.Search.{Lowest}
 use Rattle.refusals.specs.Checks.{Check, at, Refuses, Slice, slices}
 use Rattle.roots.specs.Roots.{IsRoot, StrayZero, NoZero}
 use Rattle.faults.specs.Faults.{StrayEntry, WrongCount, Lost}
-use Rattle.trees.specs.declared.TreeAnswer.{TreeAnswer}
-use Rattle.trees.specs.declared.TreeAnswer.TheVariants.{Accepted, Refused}
+use Rattle.trees.specs.declared.Rooted.{Rooted}
 
 -- n and the table have the sizes of document 01
 pub record Sized (n : ℕ) (tree : List ℕ) : Type 0 where
@@ -41,11 +41,11 @@ module _ (n : ℕ) (tree : List ℕ) where
   tree_checks = at 1 0 TaxaOutside ∷ slices 1 (tree_slice ∷ []) ++ tree_faults
 
   -- what an answer says of a table of the right size
-  abbrev pub Checks : TreeAnswer → Type 0
-  Checks (Accepted ρ δ) = table.Accepted n tree ρ δ
-  Checks (Refused r) = Refuses tree_faults r
+  abbrev pub Checks : Result Rooted Refusal → Type 0
+  Checks (Ok r) = table.Accepted n tree r.root r.top
+  Checks (Err r) = Refuses tree_faults r
 
   -- what an answer says of any table
-  abbrev pub Answers : TreeAnswer → Type 0
-  Answers (Accepted ρ δ) = Sized n tree × table.Accepted n tree ρ δ
-  Answers (Refused r) = Refuses tree_checks r
+  abbrev pub Answers : Result Rooted Refusal → Type 0
+  Answers (Ok r) = Sized n tree × table.Accepted n tree r.root r.top
+  Answers (Err r) = Refuses tree_checks r

@@ -1,28 +1,23 @@
--- `admit_character` makes the checks that come after the sizes, one after the other.
-use mathlib.Core.Path.{sym, subst}
-use Rattle.trees.specs.Answers.{Checks}
-use Rattle.checks.specs.Calls.{AdmitsCharacter, cell_checks}
-use Rattle.checks.proofs.Admitting.{slice_refuses, tree_refuses, character_admitted}
+-- `admit_character` makes the checks that come after the sizes, one after the other: a wrong slice, a tree that is refused, or cells that are.
+use Rattle.std.proofs.lemmas.Result.{err_from_is_err_and}
+use Rattle.checks.specs.Calls.{cell_checks}
+use Rattle.checks.proofs.Admitting.{slice_refuses, tree_refuses, cells_refuse}
 use Rattle.checks.proofs.admit_character.Goals as goal
 
-pub returns-in-Wrong : goal.returns-in-Wrong
-returns-in-Wrong c =
-    subst (AdmitsCharacter _ _ _ c.args.tree.now c.args.matrix.now c.args.lent)
-    (sym c.refuse.ensures) (slice_refuses _ c.args.tree.now (cell_checks c.args.n
-    c.args.c c.args.character c.args.matrix.now) _ _
-    c.in-Wrong.is)
+pub returns-in-Some : goal.returns-in-Some
+returns-in-Some c =
+    let cs = cell_checks c.args.n c.args.c c.args.character c.args.matrix.now in
+    rw c.refuse.ensures (slice_refuses _ c.args.tree.now cs _ _ c.in-Some.is)
 
-pub returns-in-Refused : goal.returns-in-Refused
-returns-in-Refused c =
-    tree_refuses _ c.args.tree.now (cell_checks c.args.n c.args.c
-    c.args.character c.args.matrix.now) _ c.in_default.is _
-    (subst (Checks _ c.args.tree.now) c.in-Refused.is
-    c.check_tree-answer.ensures)
+pub returns-in_err-rooted : goal.returns-in_err-rooted
+returns-in_err-rooted c =
+    let cs = cell_checks c.args.n c.args.c c.args.character c.args.matrix.now in
+    let p = err_from_is_err_and c.from_residual.result c.from_residual.ensures.1 in
+    rw (p.1, p.2) (tree_refuses _ c.args.tree.now cs _ c.in_default.is _ c.in_err-rooted.ensures)
 
-pub returns-in-Accepted : goal.returns-in-Accepted
-returns-in-Accepted c =
-    character_admitted c.args.n c.args.c c.args.character
-    c.args.tree.now c.args.matrix.now _ _
-    (subst (Checks _ c.args.tree.now) c.in-Accepted.is
-    c.check_tree-answer.ensures) c.args.lent c.in_default.is
-    c.admit_cells.result c.admit_cells.ensures
+pub returns-in_err-admit_cells : goal.returns-in_err-admit_cells
+returns-in_err-admit_cells c =
+    let cs = cell_checks c.args.n c.args.c c.args.character c.args.matrix.now in
+    let r = c.from_residual-in_err-admit_cells in
+    let p = err_from_is_err_and r.result r.ensures.1 in
+    rw (p.1, p.2) (cells_refuse _ c.args.tree.now _ _ c.in_ok-rooted.ensures cs _ c.in_default.is _ c.in_err-admit_cells.ensures)

@@ -18,7 +18,7 @@ inside c = omega (arith, small c, c.loop-at.invariant.long)
 pub returns-then-mark-k : goal.returns-then-mark-k
 returns-then-mark-k c =
     goes_round _ c.args.tree.now _ c.args.marks.now c.requires.1 _ c.loop-at.marks
-    c.requires.3 c.loop-at.invariant (sym c.wide-mark.ensures ∙ c.if-mark-k.true)
+    c.requires.3 c.loop-at.invariant (sym c.from-mark.ensures ∙ c.if-mark-k.true)
 
 pub returns-then-mark-ne0 : goal.returns-then-mark-ne0
 returns-then-mark-ne0 c =
@@ -26,18 +26,18 @@ returns-then-mark-ne0 c =
     c.loop-at.invariant
     (earlier_mark _ c.args.tree.now _ c.args.marks.now c.requires.1 _ c.loop-at.marks
     c.loop-at.invariant
-    (λ e. c.if-mark-ne0.true (c.wide-mark.ensures ∙ e)) (λ e. c.if-mark-k.false (c.wide-mark.ensures ∙ e)))
+    (λ e. c.if-mark-ne0.true (c.from-mark.ensures ∙ e)) (λ e. c.if-mark-k.false (c.from-mark.ensures ∙ e)))
 
 pub loop-at-smaller : goal.loop-at-smaller
 loop-at-smaller c =
     blanks_fall c.loop-at.marks _ _ (inside (goal.at.loop-at-smaller c).At-loop-at)
-    (sym c.wide-mark.ensures ∙ c.if-mark-ne0.false) c.requires.2
+    (sym c.from-mark.ensures ∙ c.if-mark-ne0.false) c.requires.2
 
 pub loop-at-preserved : goal.loop-at-preserved
 loop-at-preserved c =
     way_goes_on _ c.args.tree.now _ c.args.marks.now _ _ c.loop-at.marks
     c.requires.0 c.loop-at.invariant c.loop-at-test.true
-    (c.wide-at.ensures ∙ sym (entry_of c.args.tree.now _ c.loop-at.invariant.some))
+    (c.from-at.ensures ∙ sym (entry_of c.args.tree.now _ c.loop-at.invariant.some))
 
 pub returns : goal.returns
 returns c =

@@ -2,59 +2,52 @@
 -- behind them.
 use native.Mathlib.Omega.{arith}
 use mathlib.Core.Path.{◌≡◌, sym, ap, ◌∙◌}
-use Prim.Native.Nat.{ℕ, ◌+◌, ◌≤◌, ◌<◌}
+use Prim.Native.Nat.{ℕ, ◌+◌, ◌-◌, ◌≤◌, ◌<◌}
 use lib.ListN.{length}
-use Rattle.numbers.specs.declared.Parsed.TheVariants.{Value}
-use Rattle.numbers.specs.Numbers.{item_at}
+use Rattle.numbers.specs.Numbers.{parsed, item_at}
 use Rattle.numbers.proofs.Laws.{item_long}
 use Rattle.lines.specs.Lines.{mark_of}
 use Rattle.lines.proofs.Laws.{values_bad, values_more, values_end, alike_more, alike_bad, alike_end}
 use Rattle.lines.proofs.Reach.{mark_some}
 use Rattle.lines.proofs.values.Goals as goal
-use Rattle.lines.proofs.values.Goals.{After-item-got, In-Value}
+use Rattle.lines.proofs.values.Goals.{In_ok-item}
 
--- the item that was asked for is that of the definition
-item-is : (c : After-item-got) → c.item-got.result ≡ item_at c.args.text.now
-    (mark_of c.loop-left.left) c.loop-left.i
-item-is c =
-    c.item-got.ensures ∙ ap (λ (m : ℕ). item_at c.args.text.now m c.loop-left.i) c.mark.ensures
+-- the item that was read is that of the definition
+item-is : (c : In_ok-item) → item_at c.args.text.now (mark_of (c.args.count - c.loop-k.k)) c.loop-k.next
+    ≡ parsed c.in_ok-item.item.value c.in_ok-item.item.next
+item-is c = sym (c.in_ok-item.ensures ∙ ap (λ (m : ℕ). item_at c.args.text.now m c.loop-k.next) c.mark.ensures)
 
-value-is : (c : In-Value) → item_at c.args.text.now (mark_of c.loop-left.left)
-    c.loop-left.i ≡ Value c.in-Value.v c.in-Value.next
-value-is c = sym ((c.item-got.ensures ∙ ap (λ (m : ℕ). item_at c.args.text.now m c.loop-left.i) c.mark.ensures)) ∙ c.in-Value.is
-
-long : (c : In-Value) → (c.loop-left.i + 2 ≤ c.in-Value.next)
-    × (c.in-Value.next ≤ length c.args.text.now)
-long c = item_long _ _ _ _ _ (mark_some _) (value-is c)
+long : (c : In_ok-item) → (c.loop-k.next + 2 ≤ c.in_ok-item.item.next) × (c.in_ok-item.item.next ≤ length c.args.text.now)
+long c = item_long _ _ _ _ _ (mark_some _) (item-is c)
 
 -- a number that was read has its place in the list
-room : (c : In-Value) → c.loop-left.put < 16384
-room c = omega (arith, long c, c.loop-left.invariant.1, c.requires.1)
+room : (c : In_ok-item) → c.args.from + c.loop-k.k < 16384
+room c = omega (arith, long c, c.loop-k.invariant.1, c.requires.1)
 
-pub item-got-requires : goal.item-got-requires
-item-got-requires c = rw c.mark.ensures (mark_some _)
+pub item-requires : goal.item-requires
+item-requires c = rw c.mark.ensures (mark_some _)
 
-pub returns-in-Bad : goal.returns-in-Bad
-returns-in-Bad c =
-    alike_bad _ _ _ _ _ c.loop-left.put c.loop-left.invariant.0
-    (values_bad _ _ _ c.loop-left-test.true (sym (item-is (goal.at.returns-in-Bad c).After-item-got) ∙ c.in-Bad.is))
+pub returns-in_err-item : goal.returns-in_err-item
+returns-in_err-item c =
+    alike_bad _ _ _ _ _ _ _ c.loop-k.invariant.0
+    (values_bad _ _ _ (omega arith)
+    (sym (c.in_err-item.ensures ∙ ap (λ (m : ℕ). item_at c.args.text.now m c.loop-k.next) c.mark.ensures))) c.from_residual.ensures
 
-pub offset_bounds-out-put : goal.offset_bounds-out-put
-offset_bounds-out-put c = omega (arith, room (goal.at.offset_bounds-out-put c).In-Value)
+pub overflow_add-out : goal.overflow_add-out
+overflow_add-out c = omega (arith, room (goal.at.overflow_add-out c).In_ok-item)
 
-pub bounds-out-put : goal.bounds-out-put
-bounds-out-put c = room (goal.at.bounds-out-put c).In-Value
+pub offset_bounds-out-from : goal.offset_bounds-out-from
+offset_bounds-out-from c = omega (arith, room (goal.at.offset_bounds-out-from c).In_ok-item)
 
-pub overflow_add-put : goal.overflow_add-put
-overflow_add-put c = omega (arith, room (goal.at.overflow_add-put c).In-Value)
+pub bounds-out-from : goal.bounds-out-from
+bounds-out-from c = room (goal.at.bounds-out-from c).In_ok-item
 
-pub loop-left-preserved : goal.loop-left-preserved
-loop-left-preserved c = (
-  alike_more _ _ _ _ c.loop-left.out c.loop-left.put _ _ c.loop-left.invariant.0
-      (values_more _ _ _ _ _ c.loop-left-test.true (value-is (goal.at.loop-left-preserved c).In-Value)),
-  omega
-      (arith, long (goal.at.loop-left-preserved c).In-Value, c.loop-left.invariant.1),
+pub loop-k-preserved : goal.loop-k-preserved
+loop-k-preserved c = (
+  alike_more _ _ _ _ c.loop-k.out (c.args.from + c.loop-k.k) _ _ _ c.loop-k.invariant.0
+      (values_more _ _ _ _ _ _ (omega arith) (item-is (goal.at.loop-k-preserved c).In_ok-item)) (omega arith),
+  omega (arith, long (goal.at.loop-k-preserved c).In_ok-item, c.loop-k.invariant.1),
 )
 
 pub returns : goal.returns
-returns c = alike_end _ _ _ _ _ c.loop-left.put _ c.loop-left.invariant.0 (values_end _ _ _ c.loop-left-test.false)
+returns c = alike_end _ _ _ _ _ (c.args.from + c.loop-k.k) _ c.loop-k.invariant.0 (values_end _ _ _ (omega arith))

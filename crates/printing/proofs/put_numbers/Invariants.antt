@@ -1,17 +1,12 @@
--- `put_numbers` writes. The invariant: what is still to be written, written from here on, gives what all of it gives, and has its room. The numbers
--- left are the measure.
+-- `put_numbers` writes. The invariant: what is still to be written, written from here on, gives what all of it gives, and has its room.
 use mathlib.Core.Path.{◌≡◌}
-use Prim.Native.Nat.{◌+◌, ◌-◌, ◌≤◌}
+use Prim.Native.Nat.{◌+◌, ◌≤◌}
 use lib.ListN.{length, drop}
 use lib.Seq.{sets}
 use Rattle.numbers.specs.Printed.{continued}
 use Rattle.printing.proofs.put_numbers.Given as goal
 
-abbrev pub invariant-loop-k : goal.invariant-loop-k
-invariant-loop-k l = (l.k ≤ length l.values) × (length l.out ≡ length l.initial.out)
-    × (sets l.initial.out l.initial.next (continued (drop 1 l.values)) ≡ sets l.out l.next (continued (drop l.k l.values)))
-    × (l.initial.next + length (continued (drop 1 l.values)) ≡ l.next + length (continued (drop l.k l.values)))
-    × (l.next + length (continued (drop l.k l.values)) ≤ length l.out)
-
-abbrev pub decreases-loop-k : goal.decreases-loop-k
-decreases-loop-k l = length l.values - l.k
+abbrev pub invariant-loop-v : goal.invariant-loop-v
+invariant-loop-v l = (sets l.initial.out l.initial.next (continued l.v-items) ≡ sets l.out l.next (continued (drop l.v-index l.v-items)))
+    × (l.initial.next + length (continued l.v-items) ≡ l.next + length (continued (drop l.v-index l.v-items)))
+    × (l.next + length (continued (drop l.v-index l.v-items)) ≤ length l.out)
