@@ -21,7 +21,7 @@ fn admit(
     lengths: &[u32],
 ) -> Result<Path, Refusal>
     requires { Correctable n c taxon character tree.now matrix.now lows.now highs.now lengths.now }
-    ensures { Admits n taxon state tree.now lows.now highs.now lengths.now result }
+    ensures { Admits n c taxon character state tree.now matrix.now lows.now highs.now lengths.now result }
 {
     if 9999 < state {
         return Err(Refusal {

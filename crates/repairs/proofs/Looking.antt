@@ -19,7 +19,7 @@ use Rattle.paths.specs.Paths.{path_of, Pathable, IsPath}
 use Rattle.paths.proofs.Paths.{path-at, path-all, path-short}
 use Rattle.shapes.proofs.Subtrees.{ancestor_in}
 use Rattle.entries.specs.Entries.{BadBeside, Marks, Marked, BadMarked, Besides}
-use Rattle.repairs.specs.Repairs.{Correctable, HasPath, Looks}
+use Rattle.repairs.specs.Repairs.{Correctable, HasPath, Looks, Mends}
 
 -- a search for one thing finds another, where both hold of the same numbers
 pub finds_same : (P Q : ℕ → Type 0) (m : ℕ) → ((k : ℕ) → 1 ≤ k → k ≤ m → P k ↔ Q k) → (r : Option ℕ) → Finds P m r → Finds Q m r
@@ -166,5 +166,10 @@ module _ (n c t j : ℕ) (tree matrix lows highs lengths : List ℕ) (G : Correc
     looks =
         record { ρ = G.cell.ρ; δ = G.cell.δ; sized = G.cell.sized; accepted = G.cell.accepted; listed = has-path; lists = G.lists }
 
-    pub count-few : count ≤ 254
-    count-few = omega (arith, P.counts, path-short whole t, G.cell.sized.nodes, G.cell.sized.most)
+-- a path has few nodes
+pub path-few : (n c t j s count : ℕ) (tree path matrix lows highs lengths : List ℕ) → Mends n c t j s count tree path matrix lows highs lengths
+    → count ≤ 254
+path-few n c t j s count tree path matrix lows highs lengths M =
+    let C = M.given.cell in
+    let whole : Tree = record { n = n; tree = tree; ρ = C.ρ; δ = C.δ; is_tree = C.accepted.is_tree } in
+    omega (arith, M.listed.counts, path-short whole t, C.sized.nodes, C.sized.most)
