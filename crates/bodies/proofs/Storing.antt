@@ -8,10 +8,10 @@ use lib.ListN.{length, take, drop}
 use lib.Seq.{sets, sets-eq, length-sets, take_at}
 use Rattle.choices.specs.declared.Resolve.{Resolve}
 use Rattle.choices.specs.declared.Resolve.TheVariants.{Acctran}
+use Rattle.std.specs.Prelude.{Option, Some, None, unwrap_or, Result, Ok, Err}
+use Rattle.refusals.specs.declared.Reason.TheVariants.{Form}
 use Rattle.refusals.specs.declared.Refusal.{Refusal}
 use Rattle.refusals.specs.Checks.{Refuses}
-use Rattle.lines.specs.declared.Line.TheVariants as line
-use Rattle.lines.specs.declared.Rows.TheVariants as rows
 use Rattle.lines.specs.Lines.{Numbers, line_at, all, numbers_of, Stored, Table, rows_at, whole, cells_of, StoredRows}
 use Rattle.lines.proofs.Laws.{line-good, line_bad, rows_in, rows-good, rows-wrong}
 use Rattle.lines.proofs.Round.{RowsBack, rows_cut}
@@ -21,15 +21,13 @@ use Rattle.forms.specs.Parts.{Heads}
 use Rattle.forms.proofs.Forms.{Third, sheet_read}
 use Rattle.forms.proofs.Faults.{refused_third, refused_row, refused_end}
 use Rattle.forms.proofs.Reading.{third_read, third_reach, rows_are, rows_inside, rows-room, sheet_nothing, sheet-choice}
-use Rattle.bodies.specs.declared.SheetAnswer.{SheetAnswer}
-use Rattle.bodies.specs.declared.SheetAnswer.TheVariants.{Refused}
-use Rattle.bodies.specs.declared.Ending.TheVariants.{Wrong}
+use Rattle.bodies.specs.declared.Head.{Head}
 use Rattle.bodies.specs.Scanned.{Ends, Holds, Scanned}
 
 -- a refusal that was returned
-pub refused_as : (text : List ℕ) (r : SheetAnswer) (q : Refusal) (out : List ℕ) → r ≡ Refused q → Refuses (text_checks text) q → length out ≡ 16384
-    → Scanned text r out
-refused_as text r q out e h l = subst (λ (a : SheetAnswer). Scanned text a out) (sym e) (h, l)
+pub refused_as : (text : List ℕ) (r : Result Head Refusal) (q : Refusal) (out : List ℕ) → r ≡ Err q → Refuses (text_checks text) q
+    → length out ≡ 16384 → Scanned text r out
+refused_as text r q out e h l = subst (λ (a : Result Head Refusal). Scanned text a out) (sym e) (h, l)
 
 -- ---- the numbers stored
 
@@ -73,11 +71,11 @@ module _ {text : List ℕ} {n c i : ℕ} (H : Heads text n c i) (W : Within n c)
   table_at j = rows_at text c n 4 j
 
   -- the line of the ancestors is not in form
-  pub wrong_third : {out out₁ : List ℕ} → Stored third_line out 0 line.Bad out₁ → Refuses (text_checks text) (record { number = 11; place = 3 })
+  pub wrong_third : {out out₁ : List ℕ} → Stored third_line out 0 None out₁ → Refuses (text_checks text) (record { reason = Form; place = 3 })
   wrong_third S = refused_third text short n c i H _ W (line_bad third_line S.told)
 
   -- it is in form, and ends at j; the ancestors are stored
-  module _ {j : ℕ} {out out₁ : List ℕ} (S : Stored third_line out 0 (line.Good j) out₁) where
+  module _ {j : ℕ} {out out₁ : List ℕ} (S : Stored third_line out 0 (Some j) out₁) where
     abbrev tree : List ℕ
     tree = numbers_of third_line
 
@@ -91,14 +89,14 @@ module _ {text : List ℕ} {n c i : ℕ} (H : Heads text n c i) (W : Within n c)
     third_end = third_reach text n c i H W tree j tree_read
 
     -- a row is not in form
-    pub wrong_row : {l : ℕ} {out₂ : List ℕ} → StoredRows (table_at j) out₁ (2 * n - 2) (rows.Wrong l) out₂
-        → Refuses (text_checks text) (record { number = 11; place = l })
+    pub wrong_row : {l : ℕ} {out₂ : List ℕ} → StoredRows (table_at j) out₁ (2 * n - 2) (Err l) out₂
+        → Refuses (text_checks text) (record { reason = Form; place = l })
     wrong_row {l} R =
         refused_row text short n c tree i j third l
         (rows_cut text c W.least_characters n 4 j l _ (rows-wrong (table_at j) l R.told))
 
     -- the rows are in form, and end at `next`; the cells are stored after the ancestors
-    module _ {next : ℕ} {out₂ : List ℕ} (R : StoredRows (table_at j) out₁ (2 * n - 2) (rows.All next) out₂) where
+    module _ {next : ℕ} {out₂ : List ℕ} (R : StoredRows (table_at j) out₁ (2 * n - 2) (Ok next) out₂) where
       abbrev cells : List (List ℕ)
       cells = rows_in (table_at j)
 
@@ -112,7 +110,7 @@ module _ {text : List ℕ} {n c i : ℕ} (H : Heads text n c i) (W : Within n c)
       rows_end = rows_inside text n c i H W tree j tree_read cells next rows_read
 
       -- what stands after them is not in form
-      pub wrong_end : {l : ℕ} → Ends (drop next text) (4 + n) (Wrong l) → Refuses (text_checks text) (record { number = 11; place = l })
+      pub wrong_end : {l : ℕ} → Ends (drop next text) (4 + n) (Err l) → Refuses (text_checks text) (record { reason = Form; place = l })
       wrong_end {l} e = refused_end text short n c tree i j third cells next back l e
 
       -- it is: the text is a sheet, and its numbers are stored
@@ -126,12 +124,16 @@ module _ {text : List ℕ} {n c i : ℕ} (H : Heads text n c i) (W : Within n c)
         room : length tree + length (flatten cells) ≤ 16384
         room = rows-room text n c i H W tree j tree_read cells next rows_read short
 
-        pub done_nothing : drop next text ≡ [] → Holds text n c Acctran out₂
+        done_nothing : drop next text ≡ [] → Holds text n c Acctran out₂
         done_nothing d =
             holds text (sheet_read text n c tree i j third cells next back unsaid) out out₁ out₂
             (sheet_nothing text n c i H W tree j tree_read cells next rows_read short d) room long S.list stored
 
-        pub done_choice : {r : Resolve} → drop next text ≡ resolve_line r → Holds text n c r out₂
+        done_choice : {r : Resolve} → drop next text ≡ resolve_line r → Holds text n c r out₂
         done_choice {r} d =
             holds text (sheet_read text n c tree i j third cells next back (said r)) out out₁ out₂
             (sheet-choice text n c i H W tree j tree_read cells next rows_read short r d) room long S.list stored
+
+        pub done : (last : Option Resolve) → Ends (drop next text) (4 + n) (Ok last) → Holds text n c (unwrap_or last Acctran) out₂
+        done None d = done_nothing d
+        done (Some r) d = done_choice d

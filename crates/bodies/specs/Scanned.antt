@@ -1,22 +1,20 @@
 -- What the answers about a text say: of what stands after the rows, and of the whole text.
 -- Assumes nothing.
-use Rattle.std.specs.Prelude.{◌≡◌, ◌⊎◌, ℕ, ◌+◌, length}
+use Rattle.std.specs.Prelude.{◌≡◌, ◌⊎◌, ℕ, ◌+◌, length, Option, Some, None, Result, Ok, Err}
 use mathlib.Core.List.{List, [], ◌++◌, flatten}
 use Rattle.choices.specs.declared.Resolve.{Resolve}
+use Rattle.refusals.specs.declared.Refusal.{Refusal}
 use Rattle.refusals.specs.Checks.{Refuses}
 use Rattle.forms.specs.Sheets.{Sheet, choice, resolve_line, IsSheet}
 use Rattle.forms.specs.Faults.{text_checks}
 use Rattle.forms.specs.Parts.{NoResolve, Followed}
-use Rattle.bodies.specs.declared.SheetAnswer.{SheetAnswer}
-use Rattle.bodies.specs.declared.SheetAnswer.TheVariants.{Read, Refused}
-use Rattle.bodies.specs.declared.Ending.{Ending}
-use Rattle.bodies.specs.declared.Ending.TheVariants.{Nothing, Choice, Wrong}
+use Rattle.bodies.specs.declared.Head.{Head}
 
 -- what stands after the rows, where the next line is line k
-abbrev pub Ends : (rest : List ℕ) (k : ℕ) → Ending → Type 0
-Ends rest k Nothing = rest ≡ []
-Ends rest k (Choice r) = rest ≡ resolve_line r
-Ends rest k (Wrong l) = ((l ≡ k) × NoResolve rest) ⊎ ((l ≡ k + 1) × Followed rest)
+abbrev pub Ends : (rest : List ℕ) (k : ℕ) → Result (Option Resolve) ℕ → Type 0
+Ends rest k (Ok None) = rest ≡ []
+Ends rest k (Ok (Some r)) = rest ≡ resolve_line r
+Ends rest k (Err l) = ((l ≡ k) × NoResolve rest) ⊎ ((l ≡ k + 1) × Followed rest)
 
 -- a text is read as n, c and r, and a list of 16,384 begins with the ancestors and the cells
 pub record Holds (text : List ℕ) (n c : ℕ) (r : Resolve) (out : List ℕ) : Type 0 where
@@ -30,6 +28,6 @@ pub record Holds (text : List ℕ) (n c : ℕ) (r : Resolve) (out : List ℕ) : 
   pub long : length out ≡ 16384
 
 -- what an answer says of a text, and of the list where its numbers went
-abbrev pub Scanned : (text : List ℕ) → SheetAnswer → (out : List ℕ) → Type 0
-Scanned text (Read n c r) out = Holds text n c r out
-Scanned text (Refused q) out = Refuses (text_checks text) q × (length out ≡ 16384)
+abbrev pub Scanned : (text : List ℕ) → Result Head Refusal → (out : List ℕ) → Type 0
+Scanned text (Ok h) out = Holds text h.n h.c h.resolve out
+Scanned text (Err q) out = Refuses (text_checks text) q × (length out ≡ 16384)

@@ -8,6 +8,7 @@ use Prim.Native.Nat.{ℕ, zero, suc, ◌+◌, ◌-◌, ◌≤◌, ◌<◌}
 use native.Mathlib.Decide.{ℕ_discrete}
 use native.Mathlib.Omega.{arith}
 use lib.ListN.{length, get_or, set, length-set}
+use Rattle.std.proofs.lemmas.List.{get_or-set_same, get_or-set_other}
 use Rattle.parsimony.specs.Table.{ancestor, descendants, sisters}
 use Rattle.parsimony.specs.Ordered as ordered
 use Rattle.parsimony.specs.Ordered.{span, point, ordered}
@@ -20,33 +21,35 @@ use Rattle.ranges.specs.declared.Range.{Range}
 use Rattle.ranges.specs.Ranges.{range_of, IsRange}
 use Rattle.shapes.specs.Shape.{Filled}
 use Rattle.shapes.proofs.Subtrees as subtrees
-use Rattle.nodes.specs.Nodes.{Readable, above_of, Seeing, Seen, Finishing, Finished}
+use Rattle.nodes.specs.Nodes.{Readable, seen_at, above_of, Seeing, Seen, Finishing, Finished}
 use Rattle.descents.specs.Descents.{Descends, Finals}
+
+-- a list of what is seen from above, where nothing is written
+abbrev nothing : Range
+nothing = record { low = 0; high = 0 }
 
 -- ---- the second pass, after i turns
 
 module _ (n c j ρ δ : ℕ) (tree matrix order lows highs : List ℕ) where
-  pub record PassedTo (i : ℕ) (above-lows above-highs lows' highs' : List ℕ) : Type 0 where
-    pub turns : i ≤ n - 2
-    pub above-low-long : length above-lows ≡ 254
-    pub above-high-long : length above-highs ≡ 254
+  pub record PassedTo (i : ℕ) (above : List Range) (lows' highs' : List ℕ) : Type 0 where
+    pub above_long : length above ≡ 254
     pub low_long : length lows' ≡ n - 2
     pub high_long : length highs' ≡ n - 2
-    pub top : 1 ≤ i → above_of n above-lows above-highs δ ≡ point (state_of matrix c j ρ)
+    pub top : 1 ≤ i → above_of n above δ ≡ point (state_of matrix c j ρ)
     pub rest : (k : ℕ) → 1 ≤ k → k < i
-        → above_of n above-lows above-highs (get_or order k 0)
+        → above_of n above (get_or order k 0)
         ≡ ordered.join (map (ranges n (state_of matrix c j) lows highs) (sisters tree (get_or order k 0)) ++
-        (above_of n above-lows above-highs (ancestor tree (get_or order k 0)) ∷ []))
-    pub known : (k : ℕ) → k < i → at_node n above-lows (get_or order k 0) ≤ at_node n above-highs (get_or order k 0)
+        (above_of n above (ancestor tree (get_or order k 0)) ∷ []))
+    pub known : (k : ℕ) → k < i → IsRange (seen_at n above (get_or order k 0))
     pub fits : (k : ℕ) → k < i → at_node n lows' (get_or order k 0) ≤ at_node n highs' (get_or order k 0)
     pub finals : (k : ℕ) → k < i
         → span (at_node n lows' (get_or order k 0)) (at_node n highs' (get_or order k 0))
-        ≡ final ordered n (cells n (state_of matrix c j)) tree (ranges n (state_of matrix c j) lows highs) (above_of n above-lows above-highs)
+        ≡ final ordered n (cells n (state_of matrix c j)) tree (ranges n (state_of matrix c j) lows highs) (above_of n above)
         (get_or order k 0)
 
 -- ---- the turns
 
-module _ (n c j ρ δ : ℕ) (tree matrix order lows highs : List ℕ) (D : Descends n c j ρ δ tree matrix order lows highs) where
+module _ {n c j ρ δ : ℕ} {tree matrix order lows highs : List ℕ} (D : Descends n c j ρ δ tree matrix order lows highs) where
   abbrev turn : ℕ → ℕ
   turn k = get_or order k 0
 
@@ -94,30 +97,14 @@ module _ (n c j ρ δ : ℕ) (tree matrix order lows highs : List ℕ) (D : Desc
   abbrev entry : ℕ → ordered.Range
   entry = ranges n (state_of matrix c j) lows highs
 
-  abbrev Passed : (i : ℕ) (above-lows above-highs lows' highs' : List ℕ) → Type 0
+  abbrev Passed : (i : ℕ) (above : List Range) (lows' highs' : List ℕ) → Type 0
   Passed = PassedTo n c j ρ δ tree matrix order lows highs
 
-  pub passed_none : (above-lows above-highs lows' highs' : List ℕ) → length above-lows ≡ 254 → length above-highs ≡ 254 → length lows' ≡ n - 2
-      → length highs' ≡ n - 2 → Passed 0 above-lows above-highs lows' highs'
-  passed_none above-lows above-highs lows' highs' a b p q =
-      record {
-        turns = omega arith;
-        above-low-long = a;
-        above-high-long = b;
-        low_long = p;
-        high_long = q;
-        top = λ l. absurd (omega arith);
-        rest = λ k l m. absurd (omega arith);
-        known = λ k l. absurd (omega arith);
-        fits = λ k l. absurd (omega arith);
-        finals = λ k l. absurd (omega arith);
-      }
-
-  pub passed_all : (i : ℕ) (above-lows above-highs lows' highs' : List ℕ) → Passed i above-lows above-highs lows' highs' → n - 2 ≤ i
+  pub passed_all : {i : ℕ} {above : List Range} {lows' highs' : List ℕ} → Passed i above lows' highs' → n - 2 ≤ i
       → Finals n c j ρ δ tree matrix lows highs lows' highs'
-  passed_all i above-lows above-highs lows' highs' P h =
+  passed_all {i} {above} {lows'} {highs'} P h =
       record {
-        above = above_of n above-lows above-highs;
+        above = above_of n above;
         second =
             record {
               top = P.top (omega (arith, D.sized.least));
@@ -128,18 +115,18 @@ module _ (n c j ρ δ : ℕ) (tree matrix order lows highs : List ℕ) (D : Desc
         fits = each_turn (λ v. at_node n lows' v ≤ at_node n highs' v) (λ k l. P.fits k (omega arith));
         finals =
             each_turn
-            (λ v. span (at_node n lows' v) (at_node n highs' v) ≡ final ordered n (cells n state) tree entry (above_of n above-lows above-highs) v)
+            (λ v. span (at_node n lows' v) (at_node n highs' v) ≡ final ordered n (cells n state) tree entry (above_of n above) v)
             (λ k l. P.finals k (omega arith));
       }
     where
       rest : (v : ℕ) → n < v → v ≤ length tree → v ≢ δ
-          → above_of n above-lows above-highs v
-          ≡ ordered.join (map entry (sisters tree v) ++ (above_of n above-lows above-highs (ancestor tree v) ∷ []))
+          → above_of n above v
+          ≡ ordered.join (map entry (sisters tree v) ++ (above_of n above (ancestor tree v) ∷ []))
       rest v lo hi =
           each_turn
           (λ u. u ≢ δ
-          → above_of n above-lows above-highs u
-          ≡ ordered.join (map entry (sisters tree u) ++ (above_of n above-lows above-highs (ancestor tree u) ∷ [])))
+          → above_of n above u
+          ≡ ordered.join (map entry (sisters tree u) ++ (above_of n above (ancestor tree u) ∷ [])))
           (λ k l d. P.rest k (later k d) (omega arith)) v lo hi
         where
           later : (k : ℕ) → turn k ≢ δ → 1 ≤ k
@@ -148,12 +135,12 @@ module _ (n c j ρ δ : ℕ) (tree matrix order lows highs : List ℕ) (D : Desc
 
   -- ---- one turn
 
-  module _ (i : ℕ) (above-lows above-highs lows' highs' : List ℕ) (P : Passed i above-lows above-highs lows' highs') (l : i < n - 2)
+  module _ {i : ℕ} {above : List Range} {lows' highs' : List ℕ} (P : Passed i above lows' highs') (l : i < n - 2)
       (left right : List ℕ) (F : Filled n tree left right) where
     abbrev v : ℕ
     v = turn i
 
-    seeing : Seeing n c j ρ δ v tree matrix left right lows highs above-lows above-highs
+    seeing : Seeing n c j ρ δ v tree matrix left right lows highs above
     seeing =
         record {
           sized = D.sized;
@@ -170,12 +157,11 @@ module _ (n c j ρ δ : ℕ) (tree matrix order lows highs : List ℕ) (D : Desc
           known = known i l refl;
         }
       where
-        known : (k : ℕ) → k < n - 2 → k ≡ i → turn k ≢ δ → at_node n above-lows (ancestor tree (turn k)) ≤ at_node n above-highs
-            (ancestor tree (turn k))
+        known : (k : ℕ) → k < n - 2 → k ≡ i → turn k ≢ δ → IsRange (seen_at n above (ancestor tree (turn k)))
         known zero m e d = absurd (d D.turns.first)
         known (suc k) m e d =
             let (h, q, r) = turn_up (suc k) (omega arith) m in
-            subst (λ u. at_node n above-lows u ≤ at_node n above-highs u) r (P.known h (omega arith))
+            subst (λ u. IsRange (seen_at n above u)) r (P.known h (omega arith))
 
     -- its two descendants
     fork : descendants tree v ≡ at_node n left v ∷ at_node n right v ∷ []
@@ -209,13 +195,10 @@ module _ (n c j ρ δ : ℕ) (tree matrix order lows highs : List ℕ) (D : Desc
           high_long = P.high_long;
         }
 
-    module _ (r : Range) (S : Seen n c j ρ δ v tree matrix lows highs above-lows above-highs r) (lows'' highs'' : List ℕ)
+    module _ (r : Range) (S : Seen n c j ρ δ v tree matrix lows highs above r) (lows'' highs'' : List ℕ)
         (W : Finished n c j v r matrix left right lows highs lows' highs' lows'' highs'') where
-      abbrev al : List ℕ
-      al = set above-lows (v - n - 1) r.low
-
-      abbrev ah : List ℕ
-      ah = set above-highs (v - n - 1) r.high
+      abbrev above' : List Range
+      above' = set above (v - n - 1) r
 
       abbrev fl : List ℕ
       fl = set lows' (v - n - 1) W.range.low
@@ -230,17 +213,18 @@ module _ (n c j ρ δ : ℕ) (tree matrix order lows highs : List ℕ) (D : Desc
       room = omega (arith, turn_place i l, D.sized.most)
 
       -- what is written, and what is not
-      low-here : at_node n al v ≡ r.low
-      low-here = entry-written n above-lows v r.low lo (omega (arith, room, P.above-low-long))
+      seen_here : seen_at n above' v ≡ r
+      seen_here =
+          ap (λ k. get_or above' k nothing) (omega arith) ∙ get_or-set_same above (v - n - 1) r nothing (omega (arith, room, P.above_long))
 
-      high-here : at_node n ah v ≡ r.high
-      high-here = entry-written n above-highs v r.high lo (omega (arith, room, P.above-high-long))
+      seen_other : (u : ℕ) → n < u → u ≢ v → seen_at n above' u ≡ seen_at n above u
+      seen_other u h d = get_or-set_other above (v - n - 1) (u - suc n) r nothing (λ e. d (omega arith))
 
-      above-here : above_of n al ah v ≡ range_of r
-      above-here = ap₂ span low-here high-here
+      above_here : above_of n above' v ≡ range_of r
+      above_here = ap range_of seen_here
 
-      above_other : (u : ℕ) → n < u → u ≢ v → above_of n al ah u ≡ above_of n above-lows above-highs u
-      above_other u h d = ap₂ span (entry_other n above-lows v r.low lo u h d) (entry_other n above-highs v r.high lo u h d)
+      above_other : (u : ℕ) → n < u → u ≢ v → above_of n above' u ≡ above_of n above u
+      above_other u h d = ap range_of (seen_other u h d)
 
       final_low : at_node n fl v ≡ W.range.low
       final_low = entry-written n lows' v W.range.low lo (omega (arith, turn_place i l, P.low_long))
@@ -255,22 +239,20 @@ module _ (n c j ρ δ : ℕ) (tree matrix order lows highs : List ℕ) (D : Desc
       inner k m = (turn-inner k (omega arith)).0
 
       -- the ancestor of an earlier node, and of this one, sees what it saw
-      above_up : (k : ℕ) → 1 ≤ k → k ≤ i → above_of n al ah (ancestor tree (turn k)) ≡ above_of n above-lows above-highs (ancestor tree (turn k))
+      above_up : (k : ℕ) → 1 ≤ k → k ≤ i → above_of n above' (ancestor tree (turn k)) ≡ above_of n above (ancestor tree (turn k))
       above_up k p m =
           let (h, q, e) = turn_up k p (omega arith) in
           above_other (ancestor tree (turn k)) (subst (λ u. n < u) e (turn-inner h (omega arith)).0) (up_apart k i m l)
 
-      final_of : (u : ℕ) → above_of n al ah u ≡ above_of n above-lows above-highs u
-          → final ordered n (cells n state) tree entry (above_of n above-lows above-highs) u ≡ final ordered n (cells n state) tree entry
-          (above_of n al ah) u
+      final_of : (u : ℕ) → above_of n above' u ≡ above_of n above u
+          → final ordered n (cells n state) tree entry (above_of n above) u ≡ final ordered n (cells n state) tree entry
+          (above_of n above') u
       final_of u e = ap (λ x. ordered.join (map entry (descendants tree u) ++ (x ∷ []))) (sym e)
 
-      one-turn : Passed (i + 1) al ah fl fh
+      one-turn : Passed (i + 1) above' fl fh
       one-turn =
           record {
-            turns = omega arith;
-            above-low-long = length-set above-lows (v - n - 1) r.low ∙ P.above-low-long;
-            above-high-long = length-set above-highs (v - n - 1) r.high ∙ P.above-high-long;
+            above_long = length-set above (v - n - 1) r ∙ P.above_long;
             low_long = length-set lows' (v - n - 1) W.range.low ∙ P.low_long;
             high_long = length-set highs' (v - n - 1) W.range.high ∙ P.high_long;
             top = λ p. top (ℕ_discrete i 0);
@@ -283,31 +265,25 @@ module _ (n c j ρ δ : ℕ) (tree matrix order lows highs : List ℕ) (D : Desc
           first_is : i ≡ 0 → v ≡ δ
           first_is e = ap turn e ∙ D.turns.first
 
-          top : Dec (i ≡ 0) → above_of n al ah δ ≡ point (state ρ)
-          top (yes e) = ap (above_of n al ah) (sym (first_is e)) ∙ above-here ∙ S.top (first_is e)
+          top : Dec (i ≡ 0) → above_of n above' δ ≡ point (state ρ)
+          top (yes e) = ap (above_of n above') (sym (first_is e)) ∙ above_here ∙ S.top (first_is e)
           top (no e) =
               let d : δ ≢ v = λ q. turn-top i (omega arith) l (sym q) in
               above_other δ (subst (λ u. n < u) D.turns.first (inner 0 (omega arith))) d ∙ P.top (omega arith)
 
           rest : (k : ℕ) → 1 ≤ k → Dec (k ≡ i) → k < i + 1
-              → above_of n al ah (turn k) ≡ ordered.join (map entry (sisters tree (turn k)) ++ (above_of n al ah (ancestor tree (turn k)) ∷ []))
+              → above_of n above' (turn k) ≡ ordered.join (map entry (sisters tree (turn k)) ++ (above_of n above' (ancestor tree (turn k)) ∷ []))
           rest k p (no e) m =
               above_other (turn k) (inner k (omega arith)) (before k (omega arith)) ∙ P.rest k p (omega arith)
               ∙ ap (λ x. ordered.join (map entry (sisters tree (turn k)) ++ (x ∷ []))) (sym (above_up k p (omega arith)))
           rest k p (yes e) m =
               rw e
-              (above-here ∙ S.rest (turn-top i (omega arith) l)
+              (above_here ∙ S.rest (turn-top i (omega arith) l)
               ∙ ap (λ x. ordered.join (map entry (sisters tree v) ++ (x ∷ []))) (sym (above_up i (omega arith) (omega arith))))
 
-          known : (k : ℕ) → Dec (k ≡ i) → k < i + 1 → at_node n al (turn k) ≤ at_node n ah (turn k)
-          known k (no e) m =
-              omega (
-                arith,
-                P.known k (omega arith),
-                entry_other n above-lows v r.low lo (turn k) (inner k (omega arith)) (before k (omega arith)),
-                entry_other n above-highs v r.high lo (turn k) (inner k (omega arith)) (before k (omega arith)),
-              )
-          known k (yes e) m = rw e (omega (arith, low-here, high-here, S.fits))
+          known : (k : ℕ) → Dec (k ≡ i) → k < i + 1 → IsRange (seen_at n above' (turn k))
+          known k (no e) m = subst IsRange (sym (seen_other (turn k) (inner k (omega arith)) (before k (omega arith)))) (P.known k (omega arith))
+          known k (yes e) m = rw e (subst IsRange (sym seen_here) S.fits)
 
           fits : (k : ℕ) → Dec (k ≡ i) → k < i + 1 → at_node n fl (turn k) ≤ at_node n fh (turn k)
           fits k (no e) m =
@@ -320,7 +296,7 @@ module _ (n c j ρ δ : ℕ) (tree matrix order lows highs : List ℕ) (D : Desc
           fits k (yes e) m = rw e (omega (arith, final_low, final_high, W.joined.fits))
 
           finals : (k : ℕ) → Dec (k ≡ i) → k < i + 1
-              → span (at_node n fl (turn k)) (at_node n fh (turn k)) ≡ final ordered n (cells n state) tree entry (above_of n al ah) (turn k)
+              → span (at_node n fl (turn k)) (at_node n fh (turn k)) ≡ final ordered n (cells n state) tree entry (above_of n above') (turn k)
           finals k (no e) m =
               ap₂ span (entry_other n lows' v W.range.low lo (turn k) (inner k (omega arith)) (before k (omega arith)))
               (entry_other n highs' v W.range.high lo (turn k) (inner k (omega arith)) (before k (omega arith)))
@@ -328,26 +304,26 @@ module _ (n c j ρ δ : ℕ) (tree matrix order lows highs : List ℕ) (D : Desc
           finals k (yes e) m =
               rw e
               (ap₂ span final_low final_high ∙ W.joined.joins
-              ∙ ap (λ x. ordered.join (entry (at_node n left v) ∷ entry (at_node n right v) ∷ x ∷ [])) (sym above-here)
-              ∙ ap (λ us. ordered.join (map entry us ++ (above_of n al ah v ∷ []))) (sym fork))
+              ∙ ap (λ x. ordered.join (entry (at_node n left v) ∷ entry (at_node n right v) ∷ x ∷ [])) (sym above_here)
+              ∙ ap (λ us. ordered.join (map entry us ++ (above_of n above' v ∷ []))) (sym fork))
 
-      turned : Passed (i + 1) al ah lows'' highs''
+      turned : Passed (i + 1) above' lows'' highs''
       turned = rw W.low_written (rw W.high_written one-turn)
 
     -- the same of a node that is known to be the one whose turn it is
-    module _ (u : ℕ) (e : u ≡ v) where
-      pub seeing_at : Seeing n c j ρ δ u tree matrix left right lows highs above-lows above-highs
-      seeing_at = subst (λ w. Seeing n c j ρ δ w tree matrix left right lows highs above-lows above-highs) (sym e) seeing
+    module _ {u : ℕ} (e : u ≡ v) where
+      pub seeing_at : Seeing n c j ρ δ u tree matrix left right lows highs above
+      seeing_at = subst (λ w. Seeing n c j ρ δ w tree matrix left right lows highs above) (sym e) seeing
 
       pub finishing_at : (r : Range) → IsRange r → Finishing n c j u r matrix left right lows highs lows' highs'
       finishing_at r q = subst (λ w. Finishing n c j w r matrix left right lows highs lows' highs') (sym e) (finishing r q)
 
-      pub turned_at : (r : Range) → Seen n c j ρ δ u tree matrix lows highs above-lows above-highs r → (lows'' highs'' : List ℕ)
+      pub turned_at : (r : Range) → Seen n c j ρ δ u tree matrix lows highs above r → (lows'' highs'' : List ℕ)
           → Finished n c j u r matrix left right lows highs lows' highs' lows'' highs''
-          → Passed (i + 1) (set above-lows (u - n - 1) r.low) (set above-highs (u - n - 1) r.high) lows'' highs''
+          → Passed (i + 1) (set above (u - n - 1) r) lows'' highs''
       turned_at =
           subst
-          (λ w. (r : Range) → Seen n c j ρ δ w tree matrix lows highs above-lows above-highs r → (lows'' highs'' : List ℕ)
+          (λ w. (r : Range) → Seen n c j ρ δ w tree matrix lows highs above r → (lows'' highs'' : List ℕ)
           → Finished n c j w r matrix left right lows highs lows' highs' lows'' highs''
-          → Passed (i + 1) (set above-lows (w - n - 1) r.low) (set above-highs (w - n - 1) r.high) lows'' highs'')
+          → Passed (i + 1) (set above (w - n - 1) r) lows'' highs'')
           (sym e) turned

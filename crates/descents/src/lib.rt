@@ -6,72 +6,8 @@ ghost use Rattle.std.specs.Prelude.{◌≡◌, ℕ, ◌-◌, length};
 ghost use Rattle.shapes.specs.Shape.{Filled};
 ghost use Rattle.descents.specs.Descents.{Descends, Finals};
 
-use refusals::wide;
-
-// The second pass, with two lists for what each node sees from above.
-fn pass(
-    n: usize,
-    c: usize,
-    character: usize,
-    root: usize,
-    top: usize,
-    tree: &[u16],
-    matrix: &[u16],
-    left: &[u16; 254],
-    right: &[u16; 254],
-    order: &[u16; 254],
-    lows: &[u16],
-    highs: &[u16],
-    above_lows: &mut [u16; 254],
-    above_highs: &mut [u16; 254],
-    final_lows: &mut [u16],
-    final_highs: &mut [u16],
-)
-    requires { Descends n c character root top tree.now matrix.now order.now lows.now highs.now
-        × Filled n tree.now left.now right.now × (length above_lows.old ≡ 254) × (length above_highs.old ≡ 254)
-        × (length final_lows.old ≡ n - 2) × (length final_highs.old ≡ n - 2) }
-    ensures { Finals n c character root top tree.now matrix.now lows.now highs.now
-        final_lows.new final_highs.new }
-{
-    let mut i: usize = 0;
-    while i < n - 2 {
-        let node = wide(order[i]);
-        let at = node - n - 1;
-        let above = nodes::see(
-            n,
-            c,
-            character,
-            root,
-            top,
-            node,
-            tree,
-            matrix,
-            left,
-            right,
-            lows,
-            highs,
-            above_lows,
-            above_highs,
-        );
-        above_lows[at] = above.low;
-        above_highs[at] = above.high;
-        nodes::finish(
-            n,
-            c,
-            character,
-            node,
-            above,
-            matrix,
-            left,
-            right,
-            lows,
-            highs,
-            final_lows,
-            final_highs,
-        );
-        i += 1;
-    }
-}
+use ranges::Range;
+use shapes::Shape;
 
 // The second pass: the final ranges, from the ranges of the first pass.
 pub fn final_ranges(
@@ -82,8 +18,7 @@ pub fn final_ranges(
     top: usize,
     tree: &[u16],
     matrix: &[u16],
-    left: &[u16; 254],
-    right: &[u16; 254],
+    shape: &Shape,
     order: &[u16; 254],
     lows: &[u16],
     highs: &[u16],
@@ -91,29 +26,30 @@ pub fn final_ranges(
     final_highs: &mut [u16],
 )
     requires { Descends n c character root top tree.now matrix.now order.now lows.now highs.now
-        × Filled n tree.now left.now right.now
+        × Filled n tree.now shape.now.left shape.now.right
         × (length final_lows.old ≡ n - 2) × (length final_highs.old ≡ n - 2) }
     ensures { Finals n c character root top tree.now matrix.now lows.now highs.now
         final_lows.new final_highs.new }
 {
-    let mut above_lows = [0u16; 254];
-    let mut above_highs = [0u16; 254];
-    pass(
-        n,
-        c,
-        character,
-        root,
-        top,
-        tree,
-        matrix,
-        left,
-        right,
-        order,
-        lows,
-        highs,
-        &mut above_lows,
-        &mut above_highs,
-        final_lows,
-        final_highs,
-    );
+    let mut above = [Range { low: 0, high: 0 }; 254];
+    for i in 0..n - 2 {
+        let node = usize::from(order[i]);
+        let seen = nodes::see(
+            n, c, character, root, top, node, tree, matrix, shape, lows, highs, &above,
+        );
+        above[node - n - 1] = seen;
+        nodes::finish(
+            n,
+            c,
+            character,
+            node,
+            seen,
+            matrix,
+            shape,
+            lows,
+            highs,
+            final_lows,
+            final_highs,
+        );
+    }
 }

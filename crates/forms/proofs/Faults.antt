@@ -9,10 +9,12 @@ use lib.ListN.{length, take, drop, length-append, take-append-drop}
 use lib.Seq.{length-take-le}
 use Rattle.choices.specs.declared.Resolve.{Resolve}
 use Rattle.choices.specs.declared.Resolve.TheVariants.{Acctran, Deltran}
+use Rattle.refusals.specs.declared.Reason.TheVariants.{Limits, Form, Long}
 use Rattle.refusals.specs.Search.{Lowest}
 use Rattle.refusals.specs.Checks.{at, lowest, Clear, Refuses}
 use Rattle.refusals.proofs.Order.{clear_at, clear-lowest}
-use Rattle.numbers.specs.declared.Parsed.TheVariants.{Value, Bad}
+use Rattle.std.specs.Prelude.{None}
+use Rattle.numbers.specs.Numbers.{parsed}
 use Rattle.lines.specs.Printed.{line, row_key, FitRows}
 use Rattle.lines.specs.Lines.{head_at, line_at, all, cut, rows_at, whole, wrong}
 use Rattle.lines.proofs.Round.{head_read, line_read, rows_read, row_lines, RowsBack, RowsCut}
@@ -53,20 +55,20 @@ module _ (text : List ℕ) where
 
   -- ---- the first two lines
 
-  first_not : head_at text taxa_key 0 ≡ Bad → NotInForm text 1
+  first_not : head_at text taxa_key 0 ≡ None → NotInForm text 1
   unfolding flatten
   first_not bad (s, B) =
       let e : text ≡ line taxa_key (s.taxa ∷ []) ++ B.rest =
       B.text_is ∙ ap (λ (t : List ℕ). t ++ B.rest) (append-nil (line taxa_key (s.taxa ∷ []))) in
       let (j, got, rest) = head_read text taxa_key 0 s.taxa B.rest B.sized.taxa_fit e in
-      let f : Bad ≡ Value s.taxa j = sym bad ∙ got in
+      let f : None ≡ parsed s.taxa j = sym bad ∙ got in
       let z : ◌≡◌ {A = ℕ} 0 1 = cc in omega arith
 
-  second_not : (n a : ℕ) → n ≤ 65535 → text ≡ line taxa_key (n ∷ []) ++ drop a text → head_at text characters_key a ≡ Bad → NotInForm text 2
+  second_not : (n a : ℕ) → n ≤ 65535 → text ≡ line taxa_key (n ∷ []) ++ drop a text → head_at text characters_key a ≡ None → NotInForm text 2
   second_not n a h e bad (s, B) =
       let (taxa, f) = agree-first text n (drop a text) h e s 0 B in
       let (j, got, rest) = head_read text characters_key a s.characters _ B.sized.characters_fit (sym f) in
-      let g : Bad ≡ Value s.characters j = sym bad ∙ got in
+      let g : None ≡ parsed s.characters j = sym bad ∙ got in
       let z : ◌≡◌ {A = ℕ} 0 1 = cc in omega arith
 
   -- ---- the third
@@ -82,20 +84,20 @@ module _ (text : List ℕ) where
 
   -- ---- the refusals of the first three lines
 
-  pub refused-long : 32768 < length text → Refuses (text_checks text) (record { number = 12; place = 0 })
+  pub refused-long : 32768 < length text → Refuses (text_checks text) (record { reason = Long; place = 0 })
   refused-long h = inl (refl, (refl, h))
 
   module _ (short : length text ≤ 32768) where
-    pub refused-first : head_at text taxa_key 0 ≡ Bad → Refuses (text_checks text) (record { number = 11; place = 1 })
+    pub refused-first : head_at text taxa_key 0 ≡ None → Refuses (text_checks text) (record { reason = Form; place = 1 })
     refused-first bad = inr (clear-long short, inl (refl, lowest-line 2 0 (omega arith) (λ p. absurd (omega arith)) (first_not bad)))
 
-    pub refused-second : (n a : ℕ) → n ≤ 65535 → text ≡ line taxa_key (n ∷ []) ++ drop a text → head_at text characters_key a ≡ Bad
-        → Refuses (text_checks text) (record { number = 11; place = 2 })
+    pub refused-second : (n a : ℕ) → n ≤ 65535 → text ≡ line taxa_key (n ∷ []) ++ drop a text → head_at text characters_key a ≡ None
+        → Refuses (text_checks text) (record { reason = Form; place = 2 })
     refused-second n a h e bad =
         inr (clear-long short, inl (refl, lowest-line 2 1 (omega arith) (λ p. first_in_form text n (drop a text) h e) (second_not n a h e bad)))
 
     module _ (n c i : ℕ) (H : Heads text n c i) where
-      pub refused_outside : (Within n c → ⊥) → Refuses (text_checks text) (record { number = 1; place = 0 })
+      pub refused_outside : (Within n c → ⊥) → Refuses (text_checks text) (record { reason = Limits; place = 0 })
       refused_outside out =
           let (s, B) = heads_in_form text n c i H in
           let (taxa, characters, e) = agree_heads text n c i H s 0 B in
@@ -114,12 +116,12 @@ module _ (text : List ℕ) where
           )
 
       -- a line from the third on
-      refused-line : (k : ℕ) → Within n c → Lowest (NotInForm text) 261 k → Refuses (text_checks text) (record { number = 11; place = k })
+      refused-line : (k : ℕ) → Within n c → Lowest (NotInForm text) 261 k → Refuses (text_checks text) (record { reason = Form; place = k })
       refused-line k W L =
           inr (clear-long short, inr (clear_lines 2 (heads_in_form text n c i H), inr (clear_outside n c i H W, inl (refl, L))))
 
       pub refused_third : (vs : List ℕ) → Within n c → line_at text ancestors_key (2 * n - 2) i ≡ cut vs
-          → Refuses (text_checks text) (record { number = 11; place = 3 })
+          → Refuses (text_checks text) (record { reason = Form; place = 3 })
       refused_third vs W bad = refused-line 3 W (lowest-line 261 2 (omega arith) (λ p. heads_in_form text n c i H) (third_not n c i vs H W bad))
 
 -- ---- the rows
@@ -176,7 +178,7 @@ module _ (text : List ℕ) (short : length text ≤ 32768) (n c : ℕ) (tree : L
       sym C.stops ∙ ap (λ q. rows_at text c q 4 j) (sym (length-take-le (suc t) s.rows enough)) ∙ got in
       let z : ◌≡◌ {A = ℕ} 0 1 = cc in omega arith
 
-  pub refused_row : (m : ℕ) → RowsCut text c n 4 j m → Refuses (text_checks text) (record { number = 11; place = m })
+  pub refused_row : (m : ℕ) → RowsCut text c n 4 j m → Refuses (text_checks text) (record { reason = Form; place = m })
   refused_row m C =
       let place : suc (suc (suc (suc C.t))) ≡ m = omega (arith, C.line_is) in
       let most : suc (suc (suc (suc C.t))) ≤ 261 = omega (arith, C.within, T.within.most_taxa) in
@@ -212,7 +214,7 @@ module _ (text : List ℕ) (short : length text ≤ 32768) (n c : ℕ) (tree : L
         (λ (l : List ℕ). flatten (take 2 (last_lines s.last)) ++ l) (B.over few)))
 
     pub refused_end : (l : ℕ) → ((l ≡ 4 + n) × NoResolve (drop next text)) ⊎ ((l ≡ 4 + n + 1) × Followed (drop next text))
-        → Refuses (text_checks text) (record { number = 11; place = l })
+        → Refuses (text_checks text) (record { reason = Form; place = l })
     refused_end l (inl (e, N)) =
         let place : suc (suc (suc (length rs + 1))) ≡ l = omega (arith, R.count) in
         let most : suc (suc (suc (length rs + 1))) ≤ 261 = omega (arith, R.count, T.within.most_taxa) in

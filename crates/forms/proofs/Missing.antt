@@ -7,6 +7,7 @@ use Prim.Native.Nat.{ℕ, zero, suc, ◌+◌, ◌≤◌, ◌<◌}
 use native.Mathlib.Omega.{arith}
 use lib.ListN.{length, take, drop, get_or}
 use lib.Seq.{take-suc, length-take-le}
+use Rattle.refusals.specs.declared.Reason.TheVariants.{Form}
 use Rattle.refusals.specs.Search.{Lowest}
 use Rattle.refusals.specs.Checks.{Refuses}
 use Rattle.lines.specs.Printed.{line, row_key, FitRows}
@@ -88,7 +89,7 @@ module _ (text : List ℕ) (s : Sheet) (Z : Sized s) (W : Within s.taxa s.charac
   lowest_missing m k h l e = lowest-line text m k h (λ p. (s, begun k e)) (missing k l e)
 
   pub refused_missing : length text ≤ 32768 → (k : ℕ) → k < 3 + length s.rows → text ≡ flatten (take k (lines_of s))
-      → Refuses (text_checks text) (record { number = 11; place = suc k })
+      → Refuses (text_checks text) (record { reason = Form; place = suc k })
   unfolding flatten
   refused_missing short zero l e = inr (clear-long text short, inl (refl, lowest_missing 2 0 (omega arith) l e))
   refused_missing short (suc zero) l e = inr (clear-long text short, inl (refl, lowest_missing 2 1 (omega arith) l e))

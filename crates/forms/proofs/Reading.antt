@@ -7,7 +7,7 @@ use Prim.Native.Nat.{ℕ, ◌+◌, ◌-◌, ◌*◌, ◌≤◌, ◌<◌}
 use native.Mathlib.Omega.{arith}
 use lib.ListN.{length, drop}
 use Rattle.choices.specs.declared.Resolve.{Resolve}
-use Rattle.numbers.specs.declared.Parsed.TheVariants.{Value}
+use Rattle.numbers.specs.Numbers.{parsed}
 use Rattle.numbers.proofs.Round.{positive}
 use Rattle.lines.specs.Printed.{line}
 use Rattle.lines.specs.Lines.{head_at, line_at, all, rows_at, whole}
@@ -31,10 +31,10 @@ ancestors-positive : positive ancestors_key ≡ true
 unfolding positive
 ancestors-positive = refl
 
-pub first_read : (text : List ℕ) (n a : ℕ) → head_at text taxa_key 0 ≡ Value n a → (n ≤ 65535) × (text ≡ line taxa_key (n ∷ []) ++ drop a text)
+pub first_read : (text : List ℕ) (n a : ℕ) → head_at text taxa_key 0 ≡ parsed n a → (n ≤ 65535) × (text ≡ line taxa_key (n ∷ []) ++ drop a text)
 first_read text n a e = head_back text taxa_key 0 n a taxa-positive e
 
-pub heads_read : (text : List ℕ) (n a c b : ℕ) → head_at text taxa_key 0 ≡ Value n a → head_at text characters_key a ≡ Value c b → Heads text n c b
+pub heads_read : (text : List ℕ) (n a c b : ℕ) → head_at text taxa_key 0 ≡ parsed n a → head_at text characters_key a ≡ parsed c b → Heads text n c b
 heads_read text n a c b e f =
     let (hn, first) = first_read text n a e in
     let (hc, second) = head_back text characters_key a c b characters-positive f in

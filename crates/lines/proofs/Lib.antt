@@ -4,3 +4,4 @@ pub mod Laws
 pub mod Reach
 pub mod Round
 pub mod Unambiguous
+pub mod Results

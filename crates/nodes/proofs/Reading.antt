@@ -20,7 +20,7 @@ use Rattle.parsimony.proofs.Characters.{span-point, range-taxon, range-inner}
 use Rattle.parsimony.proofs.Tables.Descendants.{often-descendants}
 use Rattle.parsimony.proofs.Tables.Trees.{Tree}
 use Rattle.ranges.specs.declared.Range.{Range}
-use Rattle.ranges.specs.Ranges.{range_of, Joined}
+use Rattle.ranges.specs.Ranges.{range_of, IsRange, Joined}
 use Rattle.shapes.proofs.Subtrees as subtrees
 use Rattle.nodes.specs.Nodes.{Readable, IsAt, other_of, above_of, Seeing, Seen, Finished}
 
@@ -76,8 +76,8 @@ finished n c j v r matrix left right lows highs lows₀ highs₀ h a b ea eb x y
 
 -- ---- from above
 
-module _ (n c j ρ δ v : ℕ) (tree matrix left right lows highs above-lows above-highs : List ℕ)
-    (S : Seeing n c j ρ δ v tree matrix left right lows highs above-lows above-highs) where
+module _ {n c j ρ δ v : ℕ} {tree matrix left right lows highs : List ℕ} {above : List Range}
+    (S : Seeing n c j ρ δ v tree matrix left right lows highs above) where
   abbrev T : Tree
   T = record { n = n; tree = tree; ρ = ρ; δ = δ; is_tree = S.accepted.is_tree }
 
@@ -89,7 +89,7 @@ module _ (n c j ρ δ v : ℕ) (tree matrix left right lows highs above-lows abo
   root_in = in_matrix n c j ρ matrix S.some S.most S.rows S.accepted.is_tree.some S.accepted.is_tree.taxon
 
   pub sees_root : v ≡ δ → (s : ℕ) → s ≡ state_of matrix c j ρ
-      → Seen n c j ρ δ v tree matrix lows highs above-lows above-highs (record { low = s; high = s })
+      → Seen n c j ρ δ v tree matrix lows highs above (record { low = s; high = s })
   sees_root e s q =
       record {
         fits = omega arith;
@@ -157,12 +157,12 @@ module _ (n c j ρ δ v : ℕ) (tree matrix left right lows highs above-lows abo
             fits = λ h. S.fits (other_of v a b) h sister_in.1;
           })
 
-      pub above-fits : get_or above-lows (q - n - 1) 0 ≤ get_or above-highs (q - n - 1) 0
-      above-fits = omega (arith, S.known d, ap (λ k. get_or above-lows k 0) place, ap (λ k. get_or above-highs k 0) place)
+      pub above-fits : IsRange (get_or above (q - n - 1) (record { low = 0; high = 0 }))
+      above-fits = subst (λ k. IsRange (get_or above k (record { low = 0; high = 0 }))) place (S.known d)
 
       pub sees_join : (u : ℕ) → u ≡ other_of v a b → (beside r : Range) → IsAt n c j u matrix lows highs beside
-          → Joined (range_of beside ∷ span (get_or above-lows (q - n - 1) 0) (get_or above-highs (q - n - 1) 0) ∷ []) r
-          → Seen n c j ρ δ v tree matrix lows highs above-lows above-highs r
+          → Joined (range_of beside ∷ range_of (get_or above (q - n - 1) (record { low = 0; high = 0 })) ∷ []) r
+          → Seen n c j ρ δ v tree matrix lows highs above r
       sees_join u eu beside r B J =
           record {
             fits = J.fits;
@@ -170,7 +170,7 @@ module _ (n c j ρ δ v : ℕ) (tree matrix left right lows highs above-lows abo
             rest = λ e.
                 J.joins
                 ∙ ap₂ (λ x y. ordered.join (x ∷ y ∷ [])) (B.range ∙ ap (ranges n (state_of matrix c j) lows highs) eu)
-                (ap (λ k. span (get_or above-lows k 0) (get_or above-highs k 0)) (sym place))
-                ∙ ap (λ us. ordered.join (map (ranges n (state_of matrix c j) lows highs) us ++ (above_of n above-lows above-highs p ∷ [])))
+                (ap (λ k. range_of (get_or above k (record { low = 0; high = 0 }))) (sym place))
+                ∙ ap (λ us. ordered.join (map (ranges n (state_of matrix c j) lows highs) us ++ (above_of n above p ∷ [])))
                 (sym sister_is);
           }

@@ -1,7 +1,7 @@
 -- One node and one character: what is read of it, what it sees from above, and what is written for it.
 -- The lists have an entry for each interior node, the node n + 1 first. `j` is the character.
 -- Assumes nothing.
-use Rattle.std.specs.Prelude.{◌≡◌, ◌≢◌, List, [], ◌∷◌, ◌++◌, map, ℕ, ◌-◌, ◌*◌, ◌≤◌, ◌<◌, length, set}
+use Rattle.std.specs.Prelude.{◌≡◌, ◌≢◌, List, [], ◌∷◌, ◌++◌, map, ℕ, suc, ◌-◌, ◌*◌, ◌≤◌, ◌<◌, length, get_or, set}
 use Rattle.std.proofs.Math.Decide.{ℕ_discrete}
 use Rattle.parsimony.specs.Lists.{choose}
 use Rattle.parsimony.specs.Table.{ancestor, sisters, Accepted}
@@ -34,13 +34,17 @@ pub record IsAt (n c j v : ℕ) (matrix lows highs : List ℕ) (r : Range) : Typ
 abbrev pub other_of : (v a b : ℕ) → ℕ
 other_of v a b = choose (ℕ_discrete a v) b a
 
--- what is seen from above, by two lists
-abbrev pub above_of : (n : ℕ) (lows highs : List ℕ) → ℕ → ordered.Range
-above_of n lows highs v = span (at_node n lows v) (at_node n highs v)
+-- the entry of the interior node v, in a list of what each sees from above
+abbrev pub seen_at : (n : ℕ) (above : List Range) → ℕ → Range
+seen_at n above v = get_or above (v - suc n) (record { low = 0; high = 0 })
+
+-- what is seen from above, by such a list
+abbrev pub above_of : (n : ℕ) (above : List Range) → ℕ → ordered.Range
+above_of n above v = range_of (seen_at n above v)
 
 -- the node v is interior, and it is known what its ancestor sees from above; asked in full, as by the records of `descents` and `mending`, so that none has
 -- to be read for another
-pub record Seeing (n c j ρ δ v : ℕ) (tree matrix left right lows highs above-lows above-highs : List ℕ) : Type 0 where
+pub record Seeing (n c j ρ δ v : ℕ) (tree matrix left right lows highs : List ℕ) (above : List Range) : Type 0 where
   pub sized : Sized n tree
   pub accepted : Accepted n tree ρ δ
   pub shape : Filled n tree left right
@@ -52,15 +56,15 @@ pub record Seeing (n c j ρ δ v : ℕ) (tree matrix left right lows highs above
   pub fits : (u : ℕ) → n < u → u ≤ length tree → at_node n lows u ≤ at_node n highs u
   pub inner : n < v
   pub last : v ≤ length tree
-  pub known : v ≢ δ → at_node n above-lows (ancestor tree v) ≤ at_node n above-highs (ancestor tree v)
+  pub known : v ≢ δ → IsRange (seen_at n above (ancestor tree v))
 
 -- r is the range that v sees from above
-pub record Seen (n c j ρ δ v : ℕ) (tree matrix lows highs above-lows above-highs : List ℕ) (r : Range) : Type 0 where
+pub record Seen (n c j ρ δ v : ℕ) (tree matrix lows highs : List ℕ) (above : List Range) (r : Range) : Type 0 where
   pub fits : IsRange r
   pub top : v ≡ δ → range_of r ≡ point (state_of matrix c j ρ)
   pub rest : v ≢ δ
       → range_of r
-      ≡ ordered.join (map (ranges n (state_of matrix c j) lows highs) (sisters tree v) ++ (above_of n above-lows above-highs (ancestor tree v) ∷ []))
+      ≡ ordered.join (map (ranges n (state_of matrix c j) lows highs) (sisters tree v) ++ (above_of n above (ancestor tree v) ∷ []))
 
 -- the descendants of v can be read, and its final range written
 pub record Finishing (n c j v : ℕ) (r : Range) (matrix left right lows highs lows' highs' : List ℕ) : Type 0 where

@@ -6,7 +6,7 @@ ghost use Rattle.nodes.specs.Nodes.{Readable, IsAt, other_of, Seeing, Seen, Fini
 
 use cells::state_of;
 use ranges::Range;
-use refusals::wide;
+use shapes::Shape;
 
 // The range of a node: a taxon's state alone, and an interior node's entries.
 pub fn range_at(
@@ -53,17 +53,13 @@ pub fn see(
     node: usize,
     tree: &[u16],
     matrix: &[u16],
-    left: &[u16; 254],
-    right: &[u16; 254],
+    shape: &Shape,
     lows: &[u16],
     highs: &[u16],
-    above_lows: &[u16; 254],
-    above_highs: &[u16; 254],
+    above: &[Range; 254],
 ) -> Range
-    requires { Seeing n c character root top node tree.now matrix.now left.now right.now lows.now highs.now
-        above_lows.now above_highs.now }
-    ensures { Seen n c character root top node tree.now matrix.now lows.now highs.now
-        above_lows.now above_highs.now result }
+    requires { Seeing n c character root top node tree.now matrix.now shape.now.left shape.now.right lows.now highs.now above.now }
+    ensures { Seen n c character root top node tree.now matrix.now lows.now highs.now above.now result }
 {
     if node == top {
         let state = state_of(c, character, root, matrix);
@@ -72,14 +68,14 @@ pub fn see(
             high: state,
         };
     }
-    let at = wide(tree[node - 1]) - n - 1;
-    let sister = other_of(node, wide(left[at]), wide(right[at]));
+    let at = usize::from(tree[node - 1]) - n - 1;
+    let sister = other_of(
+        node,
+        usize::from(shape.left[at]),
+        usize::from(shape.right[at]),
+    );
     let beside = range_at(n, c, character, sister, matrix, lows, highs);
-    let above = Range {
-        low: above_lows[at],
-        high: above_highs[at],
-    };
-    ranges::join(beside, above)
+    ranges::join(beside, above[at])
 }
 
 // Writes the final range of a node: the join of its descendants' ranges and of the range that it sees from above.
@@ -90,21 +86,36 @@ pub fn finish(
     node: usize,
     above: Range,
     matrix: &[u16],
-    left: &[u16; 254],
-    right: &[u16; 254],
+    shape: &Shape,
     lows: &[u16],
     highs: &[u16],
     final_lows: &mut [u16],
     final_highs: &mut [u16],
 )
-    requires { Finishing n c character node above matrix.now left.now right.now lows.now highs.now
+    requires { Finishing n c character node above matrix.now shape.now.left shape.now.right lows.now highs.now
         final_lows.old final_highs.old }
-    ensures { Finished n c character node above matrix.now left.now right.now lows.now
+    ensures { Finished n c character node above matrix.now shape.now.left shape.now.right lows.now
         highs.now final_lows.old final_highs.old final_lows.new final_highs.new }
 {
     let at = node - n - 1;
-    let a = range_at(n, c, character, wide(left[at]), matrix, lows, highs);
-    let b = range_at(n, c, character, wide(right[at]), matrix, lows, highs);
+    let a = range_at(
+        n,
+        c,
+        character,
+        usize::from(shape.left[at]),
+        matrix,
+        lows,
+        highs,
+    );
+    let b = range_at(
+        n,
+        c,
+        character,
+        usize::from(shape.right[at]),
+        matrix,
+        lows,
+        highs,
+    );
     let last = ranges::final_range(a, b, above);
     final_lows[at] = last.low;
     final_highs[at] = last.high;

@@ -1,6 +1,6 @@
 -- The rows of the taxa, loaded one cell after the other.
 -- Assumes nothing.
-use mathlib.Core.Path.{◌≡◌, refl, ◌∙◌, ap, subst}
+use mathlib.Core.Path.{◌≡◌, refl, ◌∙◌, ap}
 use mathlib.Core.Logic.{◌≢◌, ◌⊎◌, inl, inr}
 use mathlib.Core.List.{List}
 use Prim.Native.Nat.{ℕ, suc, ◌+◌, ◌-◌, ◌*◌, ◌≤◌, ◌<◌}
@@ -17,7 +17,7 @@ use Rattle.passes.specs.Passes.{Loads, HasState, LoadedRow, Loaded}
 
 -- ---- one row
 
-module _ (t c a w : ℕ) (matrix lows₀ highs₀ lengths₀ : List ℕ) (some : 1 ≤ t) (L : Loads t c a w matrix lows₀ highs₀ lengths₀) where
+module _ {t c a w : ℕ} {matrix lows₀ highs₀ lengths₀ : List ℕ} (some : 1 ≤ t) (L : Loads t c a w matrix lows₀ highs₀ lengths₀) where
   -- the row begins within the matrix
   pub row_start : (t - 1) * c + a ≤ length matrix
   row_start = omega (arith, suc-mul (t - 1) c, ap (λ k. k * c) row, L.within, L.rows)
@@ -40,11 +40,7 @@ module _ (t c a w : ℕ) (matrix lows₀ highs₀ lengths₀ : List ℕ) (some :
         kept = λ i v p q r h. (refl, refl, refl);
       }
 
-  pub row_loaded : (to : ℕ) (lows highs lengths : List ℕ) → to ≡ w → LoadedRow t c a w to matrix lows₀ highs₀ lengths₀ lows highs lengths
-      → LoadedRow t c a w w matrix lows₀ highs₀ lengths₀ lows highs lengths
-  row_loaded to lows highs lengths e R = subst (λ k. LoadedRow t c a w k matrix lows₀ highs₀ lengths₀ lows highs lengths) e R
-
-  module _ (k : ℕ) (l : k < w) (lows highs lengths : List ℕ) (R : LoadedRow t c a w k matrix lows₀ highs₀ lengths₀ lows highs lengths) (x : ℕ)
+  module _ {k : ℕ} (l : k < w) {lows highs lengths : List ℕ} (R : LoadedRow t c a w k matrix lows₀ highs₀ lengths₀ lows highs lengths) (x : ℕ)
       (read : x ≡ get_or matrix ((t - 1) * c + a + k) 0) where
     abbrev at : ℕ
     at = (t - 1) * w + k
@@ -120,6 +116,3 @@ module _ (n c a w : ℕ) (matrix : List ℕ) where
           let (f, g, h) = D.taxa i u p q r (omega arith) in
           let (f', g', h') = R.kept i u p q r (inl e) in
           (f' ∙ f, g' ∙ g, h' ∙ h)
-
-  pub loaded_all : (k : ℕ) (lows highs lengths : List ℕ) → k ≡ n → Loaded k c a w matrix lows highs lengths → Loaded n c a w matrix lows highs lengths
-  loaded_all k lows highs lengths e D = subst (λ m. Loaded m c a w matrix lows highs lengths) e D

@@ -11,11 +11,12 @@ use Rattle.shapes.proofs.Subtrees as subtrees
 use Rattle.blocks.specs.Blocks.{Walks, WalkedIn}
 use Rattle.passes.specs.Passes.{Loaded, PassedIn}
 
-module _ (n c a w δ : ℕ) (tree : List ℕ) (ρ : ℕ) (left right matrix : List ℕ) (O : Orders n δ tree ρ left right) where
+module _ {n δ : ℕ} {tree : List ℕ} {ρ : ℕ} {left right : List ℕ} (O : Orders n δ tree ρ left right) where
   abbrev T : Tree
   T = record { n = n; tree = tree; ρ = ρ; δ = δ; is_tree = O.accepted.is_tree }
 
-  module _ (lows highs lengths : List ℕ) (few : w ≤ 8) (small : (i k : ℕ) → 1 ≤ i → i ≤ w → 1 ≤ k → k ≤ n → state_of matrix c (a + i) k ≤ 9999)
+  module _ {c a w : ℕ} {matrix lows highs lengths : List ℕ} (few : w ≤ 8)
+      (small : (i k : ℕ) → 1 ≤ i → i ≤ w → 1 ≤ k → k ≤ n → state_of matrix c (a + i) k ≤ 9999)
       (L : Loaded n c a w matrix lows highs lengths) where
     pub walks : Walks δ n w tree ρ δ left right lows highs lengths
     walks =
@@ -34,9 +35,9 @@ module _ (n c a w δ : ℕ) (tree : List ℕ) (ρ : ℕ) (left right matrix : Li
           none = λ i k p q r s. (L.taxa i k p q r s).2;
         }
 
-    pub walked : (lows' highs' lengths' : List ℕ) → WalkedIn δ n w tree lows highs lengths lows' highs' lengths'
+    pub walked : {lows' highs' lengths' : List ℕ} → WalkedIn δ n w tree lows highs lengths lows' highs' lengths'
         → PassedIn n c a w tree matrix lows' highs' lengths'
-    walked lows' highs' lengths' W =
+    walked W =
         record {
           room = W.room;
           taxa = λ i k p q r s.

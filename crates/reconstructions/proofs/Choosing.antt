@@ -21,13 +21,12 @@ use Rattle.descents.proofs.Passing as passing
 module _ (n c j : ℕ) (tree matrix order lows highs : List ℕ) where
   -- the states after i turns
   pub record ChosenTo (i : ℕ) (states : List ℕ) : Type 0 where
-    pub turns : i ≤ n - 2
     pub long : length states ≡ n - 2
     pub chosen : (k : ℕ) → k < i
         → pos (at_node n states (get_or order k 0)) ≡ nearest (ranges n (state_of matrix c j) lows highs (get_or order k 0))
         (way_of n (state_of matrix c j) states (ancestor tree (get_or order k 0)))
 
-module _ (n c j ρ δ : ℕ) (tree matrix order lows highs : List ℕ) (D : Descends n c j ρ δ tree matrix order lows highs) where
+module _ {n c j ρ δ : ℕ} {tree matrix order lows highs : List ℕ} (D : Descends n c j ρ δ tree matrix order lows highs) where
   abbrev turn : ℕ → ℕ
   turn k = get_or order k 0
 
@@ -37,24 +36,21 @@ module _ (n c j ρ δ : ℕ) (tree matrix order lows highs : List ℕ) (D : Desc
   abbrev ChosenBy : ℕ → List ℕ → Type 0
   ChosenBy = ChosenTo n c j tree matrix order lows highs
 
-  pub chosen_none : (states : List ℕ) → length states ≡ n - 2 → ChosenBy 0 states
-  chosen_none states e = record { turns = omega arith; long = e; chosen = λ k l. absurd (omega arith) }
-
-  pub chosen-all : (i : ℕ) (states : List ℕ) → ChosenBy i states → n - 2 ≤ i → Chooses n c j ρ tree matrix lows highs states
-  chosen-all i states P h =
+  pub chosen-all : {i : ℕ} {states : List ℕ} → ChosenBy i states → n - 2 ≤ i → Chooses n c j ρ tree matrix lows highs states
+  chosen-all {i} {states} P h =
       record {
         long = P.long;
         chosen =
             record {
               taxa = λ k p l d. way-taxon n state states k l ∙ sym (nearest-point (state k) (way_of n state states (ancestor tree k)));
               forks = λ v lo hi. way-inner n state states v lo
-                  ∙ passing.each_turn n c j ρ δ tree matrix order lows highs D
+                  ∙ passing.each_turn D
                   (λ u. pos (at_node n states u) ≡ nearest (ranges n state lows highs u) (way_of n state states (ancestor tree u)))
                   (λ k l. P.chosen k (omega arith)) v lo hi;
             };
       }
 
-  module _ (i : ℕ) (states : List ℕ) (P : ChosenBy i states) (l : i < n - 2) where
+  module _ {i : ℕ} {states : List ℕ} (P : ChosenBy i states) (l : i < n - 2) where
     abbrev v : ℕ
     v = turn i
 
@@ -89,7 +85,6 @@ module _ (n c j ρ δ : ℕ) (tree matrix order lows highs : List ℕ) (D : Desc
         → pos x ≡ nearest (span (get_or lows (v - n - 1) 0) (get_or highs (v - n - 1) 0)) (pos from) → ChosenBy (i + 1) (set states (v - n - 1) x)
     chosen_next from x A e =
         record {
-          turns = omega arith;
           long = length-set states (v - n - 1) x ∙ P.long;
           chosen = λ k m. chosen k (ℕ_discrete k i) m;
         }
@@ -105,7 +100,7 @@ module _ (n c j ρ δ : ℕ) (tree matrix order lows highs : List ℕ) (D : Desc
             ∙ P.chosen k (omega arith)
             ∙ ap (nearest (ranges n state lows highs (turn k)))
             (sym (way-other n state states v x lo (ancestor tree (turn k))
-            (passing.up_apart n c j ρ δ tree matrix order lows highs D k i (omega arith) l)))
+            (passing.up_apart D k i (omega arith) l)))
         chosen k (yes d) m =
             rw d
             (ap pos (entry-written n states v x lo (omega (arith, lo, hi, P.long, D.sized.nodes))) ∙ e
@@ -113,10 +108,10 @@ module _ (n c j ρ δ : ℕ) (tree matrix order lows highs : List ℕ) (D : Desc
             (ap (λ h. span (get_or lows h 0) (get_or highs h 0)) place ∙ sym (range-inner n state lows highs v lo))
             (A
             ∙ sym (way-other n state states v x lo (ancestor tree v)
-            (passing.up_apart n c j ρ δ tree matrix order lows highs D i i (omega arith) l))))
+            (passing.up_apart D i i (omega arith) l))))
 
     -- the same of a node that is known to be the one whose turn it is
-    module _ (u : ℕ) (e : u ≡ v) where
+    module _ {u : ℕ} (e : u ≡ v) where
       pub choosing_at : Choosing n c j u tree matrix states
       choosing_at = subst (λ w. Choosing n c j w tree matrix states) (sym e) choosing
 
@@ -130,14 +125,3 @@ module _ (n c j ρ δ : ℕ) (tree matrix order lows highs : List ℕ) (D : Desc
           (λ w. (from x : ℕ) → ChosenAt n c j w tree matrix states from
           → pos x ≡ nearest (span (get_or lows (w - n - 1) 0) (get_or highs (w - n - 1) 0)) (pos from) → ChosenBy (i + 1) (set states (w - n - 1) x))
           (sym e) chosen_next
-
--- ---- the state of a node's ancestor
-
-module _ (n c j v : ℕ) (tree matrix states : List ℕ) (u : ℕ) (e : u ≡ ancestor tree v) where
-  pub at-taxon : u ≤ n → (r : ℕ) → r ≡ state_of matrix c j u → ChosenAt n c j v tree matrix states r
-  at-taxon l r q = ap pos q ∙ sym (way-taxon n (state_of matrix c j) states u l) ∙ ap (way_of n (state_of matrix c j) states) e
-
-  pub at_inner : n < u → ChosenAt n c j v tree matrix states (get_or states (u - n - 1) 0)
-  at_inner h =
-      let place : u - n - 1 ≡ u - suc n = omega arith in
-      ap (λ k. pos (get_or states k 0)) place ∙ sym (way-inner n (state_of matrix c j) states u h) ∙ ap (way_of n (state_of matrix c j) states) e

@@ -1,4 +1,3 @@
--- The choice of the states, one node after the other (Choosing), and from which ranges (Resolving).
+-- The choice of the states, one node after the other.
 -- Assumes nothing.
 pub mod Choosing
-pub mod Resolving

@@ -9,7 +9,6 @@ ghost use Rattle.reconstructions.specs.Reconstructions.{Choosing, ChosenAt, Choo
 use cells::state_of;
 use choices::Resolve;
 use ranges::Range;
-use refusals::wide;
 
 // The state of a node's ancestor: a taxon's own, and an interior node's among those that are chosen.
 fn state_above(
@@ -24,7 +23,7 @@ fn state_above(
     requires { Choosing n c character node tree.now matrix.now states.now }
     ensures { ChosenAt n c character node tree.now matrix.now states.now result }
 {
-    let ancestor = wide(tree[node - 1]);
+    let ancestor = usize::from(tree[node - 1]);
     if ancestor <= n {
         return state_of(c, character, ancestor, matrix);
     }
@@ -49,9 +48,8 @@ pub fn choose_states(
     ensures { Chooses n c character root tree.now matrix.now lows.now highs.now
         states.new }
 {
-    let mut i: usize = 0;
-    while i < n - 2 {
-        let node = wide(order[i]);
+    for i in 0..n - 2 {
+        let node = usize::from(order[i]);
         let at = node - n - 1;
         let from = state_above(n, c, character, node, tree, matrix, states);
         let range = Range {
@@ -59,7 +57,6 @@ pub fn choose_states(
             high: highs[at],
         };
         states[at] = ranges::nearest(range, from);
-        i += 1;
     }
 }
 
@@ -86,32 +83,11 @@ pub fn reconstruct(
         (list_of resolve first_lows.now final_lows.now)
         (list_of resolve first_highs.now final_highs.now) states.new }
 {
-    match resolve {
-        Resolve::Acctran => choose_states(
-            n,
-            c,
-            character,
-            root,
-            top,
-            tree,
-            matrix,
-            order,
-            first_lows,
-            first_highs,
-            states,
-        ),
-        Resolve::Deltran => choose_states(
-            n,
-            c,
-            character,
-            root,
-            top,
-            tree,
-            matrix,
-            order,
-            final_lows,
-            final_highs,
-            states,
-        ),
-    }
+    let (lows, highs) = match resolve {
+        Resolve::Acctran => (first_lows, first_highs),
+        Resolve::Deltran => (final_lows, final_highs),
+    };
+    choose_states(
+        n, c, character, root, top, tree, matrix, order, lows, highs, states,
+    );
 }

@@ -1,9 +1,9 @@
 -- `read_rows`: a row that is not in form ends the reading; one in form is stored, two bytes for each number at the least, and reading goes on behind
 -- it.
 use native.Mathlib.Omega.{arith}
-use mathlib.Core.Path.{◌≡◌, refl, sym, ap, ◌∙◌}
-use Prim.Native.Nat.{ℕ, ◌+◌, ◌*◌, ◌≤◌}
-use Rattle.std.specs.Prelude.{Option, Some, None, Ok, Err, ok_or}
+use mathlib.Core.Path.{◌≡◌, sym, ap, ◌∙◌}
+use Prim.Native.Nat.{◌+◌, ◌*◌, ◌≤◌}
+use Rattle.std.specs.Prelude.{Err}
 use Rattle.std.proofs.lemmas.Result.{err_from_is_err_and}
 use lib.ListN.{length}
 use Rattle.lines.specs.Printed.{row_key}
@@ -11,17 +11,9 @@ use Rattle.lines.specs.Lines.{Numbers, all, line_at, numbers_of}
 use Rattle.lines.proofs.Laws.{rows_alike_more, rows_alike_wrong, rows_alike_end}
 use Rattle.lines.proofs.Laws.{line-good, line_bad, rows_bad, rows_more, rows_end}
 use Rattle.lines.proofs.Reach.{line-reach}
+use Rattle.lines.proofs.Results.{ok_some, ok_none}
 use Rattle.lines.proofs.read_rows.Goals as goal
 use Rattle.lines.proofs.read_rows.Goals.{In_ok-next}
-
--- a line in form, and one that is not, with the number of the line
-ok_some : (o : Option ℕ) (line next : ℕ) → Ok next ≡ ok_or o line → o ≡ Some next
-ok_some None line next e = absurd cc
-ok_some (Some x) line next e = cc
-
-ok_none : (o : Option ℕ) (line l : ℕ) → Err l ≡ ok_or o line → (o ≡ None) × (l ≡ line)
-ok_none None line l e = (refl, (cc))
-ok_none (Some x) line l e = absurd cc
 
 -- the row at this position, as it is read
 abbrev read : In_ok-next → Numbers

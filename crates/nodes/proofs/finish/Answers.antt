@@ -4,8 +4,8 @@ use Rattle.nodes.proofs.finish.Goals as goal
 
 pub returns : goal.returns
 returns c =
-    finished _ _ _ _ _ c.args.matrix.now c.args.left.now
-    c.args.right.now c.args.lows.now c.args.highs.now
+    finished _ _ _ _ _ c.args.matrix.now c.args.shape.now.left
+    c.args.shape.now.right c.args.lows.now c.args.highs.now
     c.args.final_lows.now c.args.final_highs.now c.requires.inner _ _
-    c.wide.ensures c.wide-2.ensures _ _ c.range_at-a.ensures
+    c.from.ensures c.from-2.ensures _ _ c.range_at-a.ensures
     c.range_at-b.ensures _ c.final_range-last.ensures

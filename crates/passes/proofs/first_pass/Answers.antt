@@ -5,29 +5,18 @@ use Rattle.passes.proofs.first_pass.Goals as goal
 
 pub walk-requires : goal.walk-requires
 walk-requires c =
+    let q = c.requires in
     record {
-      tree = c.requires.tree;
-      ρ = c.requires.ρ;
+      tree = q.tree;
+      ρ = q.ρ;
       δ = c.args.top;
-      walks = walks _ _ _
-          _ _ c.requires.tree c.requires.ρ c.args.left.now
-          c.args.right.now c.args.matrix.now c.requires.orders
-          c.load.new.lows c.load.new.highs
-          c.load.new.lengths c.requires.loads.few c.requires.small
-          c.load.ensures;
-      allows = omega (
-        arith,
-        c.requires.orders.sized.nodes,
-        c.requires.orders.sized.least,
-      );
+      walks = walks q.orders q.loads.few q.small c.load.ensures;
+      allows = omega (arith, q.orders.sized.nodes, q.orders.sized.least);
     }
 
 pub returns : goal.returns
 returns c =
-    λ tree ρ O. walked _ _ _ _ _ tree ρ c.args.left.now c.args.right.now
-    c.args.matrix.now O c.load.new.lows c.load.new.highs
-    c.load.new.lengths c.requires.loads.few c.requires.small
-    c.load.ensures _ _ _ (c.walk.ensures tree ρ _ (walks _ _ _ _ _ tree ρ c.args.left.now
-    c.args.right.now c.args.matrix.now O c.load.new.lows
-    c.load.new.highs c.load.new.lengths c.requires.loads.few
-    c.requires.small c.load.ensures))
+    λ tree ρ O.
+    let few = c.requires.loads.few in
+    let small = c.requires.small in
+    walked O few small c.load.ensures (c.walk.ensures tree ρ _ (walks O few small c.load.ensures))

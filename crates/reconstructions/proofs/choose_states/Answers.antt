@@ -4,22 +4,11 @@ use Rattle.reconstructions.proofs.Choosing.{chosen-all, range-fits-at, chosen_at
 use Rattle.reconstructions.proofs.choose_states.Goals as goal
 
 pub nearest-requires : goal.nearest-requires
-nearest-requires c =
-    range-fits-at _ _ _ _ _ c.args.tree.now c.args.matrix.now
-    c.args.order.now c.args.lows.now
-    c.args.highs.now c.requires.0 c.loop-i.i
-    c.loop-i.states c.loop-i.invariant
-    c.loop-i-test.true _ c.wide-node.ensures
+nearest-requires c = range-fits-at c.requires.0 c.loop-i.invariant c.loop-i-test.true c.from-node.ensures
 
 pub loop-i-preserved : goal.loop-i-preserved
 loop-i-preserved c =
-    chosen_at _ _ _ _ _ c.args.tree.now c.args.matrix.now c.args.order.now
-    c.args.lows.now c.args.highs.now c.requires.0 c.loop-i.i
-    c.loop-i.states c.loop-i.invariant c.loop-i-test.true _
-    c.wide-node.ensures _ _ c.state_above-from.ensures c.nearest.ensures
+    chosen_at c.requires.0 c.loop-i.invariant c.loop-i-test.true c.from-node.ensures _ _ c.state_above-from.ensures c.nearest.ensures
 
 pub returns : goal.returns
-returns c =
-    chosen-all _ _ _ _ _ c.args.tree.now c.args.matrix.now c.args.order.now
-    c.args.lows.now c.args.highs.now c.requires.0 _ c.loop-i.states
-    c.loop-i.invariant c.loop-i-test.false
+returns c = chosen-all c.requires.0 c.loop-i.invariant c.loop-i-test.false

@@ -1,11 +1,6 @@
--- `choose_states` takes one interior node after the other, in the order of the list. The invariant: the first i of them have their states. The turns
--- that are left are the measure.
-use Prim.Native.Nat.{◌-◌}
+-- `choose_states` takes one interior node after the other, in the order of the list. The invariant: the first i of them have their states.
 use Rattle.reconstructions.proofs.Choosing.{ChosenTo}
 use Rattle.reconstructions.proofs.choose_states.Given as goal
 
 abbrev pub invariant-loop-i : goal.invariant-loop-i
 invariant-loop-i l = ChosenTo l.n l.c l.character l.tree l.matrix l.order l.lows l.highs l.i l.states
-
-abbrev pub decreases-loop-i : goal.decreases-loop-i
-decreases-loop-i l = l.n - l.i
