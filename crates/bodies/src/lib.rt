@@ -9,7 +9,7 @@ ghost use Rattle.forms.specs.Parts.{Heads};
 ghost use Rattle.bodies.specs.Scanned.{Ends, Scanned};
 
 use choices::Resolve;
-use refusals::{Reason, Refusal};
+pub use refusals::{Reason, Refusal};
 
 // What a sheet says beside its tree and its matrix: n, c and the resolve choice.
 #[derive(Clone, Copy, Debug, PartialEq, Eq)]
@@ -19,14 +19,18 @@ pub struct Head {
     pub resolve: Resolve,
 }
 
+// A refusal, by its reason and its place.
+pub fn refuse(reason: Reason, place: u32) -> Refusal
+    ensures { result ≡ record { reason = reason; place = place } }
+{
+    Refusal { reason, place }
+}
+
 // The refusal of a text in which this line is not in form.
-pub fn not_in_form(line: u32) -> Refusal
+fn not_in_form(line: u32) -> Refusal
     ensures { result ≡ record { reason = Reason.Form; place = line } }
 {
-    Refusal {
-        reason: Reason::Form,
-        place: line,
-    }
+    refuse(Reason::Form, line)
 }
 
 // What a resolve line at `at`, as line `line`, is: the choice, if nothing follows it; else the number of the line that is not in form.

@@ -2,10 +2,10 @@
 -- Assumes nothing.
 use mathlib.Core.Path.{◌≡◌, sym, ◌∙◌, ap, ap₂, subst}
 use mathlib.Core.List.{List, [], ◌∷◌}
-use Prim.Native.Nat.{ℕ, ◌+◌, ◌-◌, ◌*◌, ◌≤◌, ◌<◌}
+use Prim.Native.Nat.{ℕ, suc, ◌+◌, ◌-◌, ◌*◌, ◌≤◌, ◌<◌}
 use native.Mathlib.Decide.{dec_le}
 use native.Mathlib.Omega.{arith}
-use lib.ListN.{length}
+use lib.ListN.{length, get_or}
 use Rattle.parsimony.specs.Table.{descendants}
 use Rattle.parsimony.specs.Ordered as ordered
 use Rattle.parsimony.specs.Ordered.{span, point}
@@ -28,13 +28,24 @@ use Rattle.shapes.proofs.Subtrees as subtrees
 use Rattle.rows.specs.Rows.{range_at}
 use Rattle.blocks.specs.Blocks.{Fits}
 use Rattle.passes.specs.Passes.{PassedIn}
-use Rattle.entry_lists.specs.EntryLists.{Taken, Ends, length_at}
+use Rattle.entry_lists.specs.EntryLists.{Copied, Taken, Ends, length_at}
 
-module _ (n c a w δ : ℕ) (tree : List ℕ) (ρ : ℕ) (left right matrix : List ℕ) (O : Orders n δ tree ρ left right) where
+-- a list of the block, copied for the character i, has what the block has at the nodes
+pub taken : {n w i : ℕ} {block entries : List ℕ} → 1 ≤ i → Copied n w i block entries → Taken n w i block entries
+taken {n} {w} {i} {block} p C =
+    record {
+      long = C.long;
+      taken = λ v lo hi. C.copied (v - suc n) 0 (omega arith) ∙ ap (λ k. get_or block k 0) (ap (λ x. x * w + (i - 1)) (row v lo) ∙ omega arith);
+    }
+  where
+    row : (v : ℕ) → n < v → n + (v - suc n) ≡ v - 1
+    row v lo = omega arith
+
+module _ {n δ : ℕ} {tree : List ℕ} {ρ : ℕ} {left right : List ℕ} (O : Orders n δ tree ρ left right) where
   abbrev T : Tree
   T = record { n = n; tree = tree; ρ = ρ; δ = δ; is_tree = O.accepted.is_tree }
 
-  module _ (lows highs lengths : List ℕ) (P : PassedIn n c a w tree matrix lows highs lengths) (i : ℕ) (p : 1 ≤ i) (q : i ≤ w) where
+  module _ {c a w : ℕ} {matrix lows highs lengths : List ℕ} (P : PassedIn n c a w tree matrix lows highs lengths) (i : ℕ) (p : 1 ≤ i) (q : i ≤ w) where
     abbrev state : ℕ → ℕ
     state = state_of matrix c (a + i)
 
@@ -44,7 +55,7 @@ module _ (n c a w δ : ℕ) (tree : List ℕ) (ρ : ℕ) (left right matrix : Li
         let (f, g, h) = P.taxa i k p q r s in
         ap₂ span f g ∙ span-point (state k)
 
-    module _ (flows fhighs flengths : List ℕ) (E : Taken n w i lows flows) (F : Taken n w i highs fhighs) (G : Taken n w i lengths flengths) where
+    module _ {flows fhighs flengths : List ℕ} (E : Taken n w i lows flows) (F : Taken n w i highs fhighs) (G : Taken n w i lengths flengths) where
       last : (v : ℕ) → v ≤ length tree → v ≤ 2 * n - 2
       last v hi = omega (arith, O.sized.nodes)
 

@@ -2,60 +2,43 @@
 -- Assumes nothing.
 use mathlib.Core.Path.{◌≡◌, ◌∙◌, ap, ap₂, subst}
 use mathlib.Core.List.{List, [], ◌∷◌}
-use Prim.Native.Nat.{ℕ, suc, ◌+◌, ◌-◌, ◌*◌, ◌≤◌, ◌<◌}
+use Prim.Native.Nat.{ℕ, ◌+◌, ◌-◌, ◌*◌, ◌≤◌, ◌<◌}
 use native.Mathlib.Decide.{ℕ_discrete}
 use native.Mathlib.Omega.{arith}
 use lib.ListN.{length, get_or, set, length-set}
 use lib.Seq.{get_or-set_same, get_or-set_other}
+use Rattle.std.proofs.lemmas.List.{get_or_default}
 use Rattle.parsimony.specs.Ordered as ordered
 use Rattle.parsimony.specs.Ordered.{span}
 use Rattle.parsimony.specs.Matrix.{state_of}
 use Rattle.rows.proofs.Rows.{place_in}
-use Rattle.entry_lists.specs.EntryLists.{Takes, Taken, Ends, length_at}
+use Rattle.entry_lists.specs.EntryLists.{Takes, Ends, length_at}
 
 -- the first k entries are taken
-pub record TakenTo (n w i k : ℕ) (block entries : List ℕ) : Type 0 where
-  pub turns : k ≤ n - 2
+pub record TakenTo {A : Type 0} (n w i k : ℕ) (block entries : List A) : Type 0 where
   pub long : length entries ≡ n - 2
-  pub taken : (h : ℕ) → h < k → get_or entries h 0 ≡ state_of block w i (n + h + 1)
+  pub taken : (h : ℕ) (d : A) → h < k → get_or entries h d ≡ get_or block ((n + h) * w + (i - 1)) d
 
-module _ (n w i : ℕ) (block : List ℕ) where
-  pub taken_none : (entries : List ℕ) → Takes n w i entries → TakenTo n w i 0 block entries
-  taken_none entries S = record { turns = omega arith; long = S.long; taken = λ h l. absurd (omega arith) }
-
-  pub place : (entries : List ℕ) → Takes n w i entries → (k : ℕ) → k < n - 2 → (n + k) * w + (i - 1) < 4080
-  place entries S k l =
+module _ {A : Type 0} {n w i : ℕ} {entries₀ : List A} (S : Takes n w i entries₀) where
+  pub place : {k : ℕ} → k < n - 2 → (n + k) * w + (i - 1) < 4080
+  place {k} l =
       subst (λ v. v * w + (i - 1) < 4080) node (place_in (n + k + 1) w (i - 1) (omega arith) (omega (arith, S.most)) S.few
       (omega (arith, S.some, S.one)))
     where
       node : n + k + 1 - 1 ≡ n + k
       node = omega arith
 
-  pub taken_more : (entries : List ℕ) (k x : ℕ) → 1 ≤ i → k < n - 2 → TakenTo n w i k block entries → x ≡ get_or block ((n + k) * w + (i - 1)) 0
-      → TakenTo n w i (k + 1) block (set entries k x)
-  taken_more entries k x p l D e =
-      record {
-        turns = omega arith;
-        long = length-set entries k x ∙ D.long;
-        taken = λ h m. taken h m (ℕ_discrete h k);
-      }
-    where
-      there : (n + k) * w + (i - 1) ≡ (n + k + 1 - 1) * w + i - 1
-      there = ap (λ v. v * w + (i - 1)) row ∙ omega arith
-        where
-          row : n + k ≡ n + k + 1 - 1
-          row = omega arith
+  module _ {block entries : List A} {k : ℕ} {x : A} (l : k < n - 2) (D : TakenTo n w i k block entries) (long : length block ≡ 4080)
+      (e : x ≡ get_or block ((n + k) * w + (i - 1)) x) where
+    pub taken_more : TakenTo n w i (k + 1) block (set entries k x)
+    taken_more = record { long = length-set entries k x ∙ D.long; taken = λ h d m. taken h d m (ℕ_discrete h k) }
+      where
+        within : (n + k) * w + (i - 1) < length block
+        within = omega (arith, place l, long)
 
-      taken : (h : ℕ) → h < k + 1 → Dec (h ≡ k) → get_or (set entries k x) h 0 ≡ state_of block w i (n + h + 1)
-      taken h m (yes q) = rw q (get_or-set_same entries k x 0 (omega (arith, D.long)) ∙ e ∙ ap (λ j. get_or block j 0) there)
-      taken h m (no q) = get_or-set_other entries k h x 0 q ∙ D.taken h (omega arith)
-
-  pub taken-all : (entries : List ℕ) (k : ℕ) → n - 2 ≤ k → TakenTo n w i k block entries → Taken n w i block entries
-  taken-all entries k l D =
-      record {
-        long = D.long;
-        taken = λ v lo hi. D.taken (v - suc n) (omega (arith, D.turns)) ∙ ap (state_of block w i) (omega arith);
-      }
+        taken : (h : ℕ) (d : A) → h < k + 1 → Dec (h ≡ k) → get_or (set entries k x) h d ≡ get_or block ((n + h) * w + (i - 1)) d
+        taken h d m (yes q) = rw q (get_or-set_same entries k x d (omega (arith, D.long)) ∙ e ∙ get_or_default block _ x d within)
+        taken h d m (no q) = get_or-set_other entries k h x d q ∙ D.taken h d (omega arith)
 
 -- ---- the length of one character
 

@@ -1,6 +1,6 @@
 -- One of the w characters of a block by itself: its entries at the interior nodes, and its length. A block's lists are as in the crate `blocks`.
 -- Assumes nothing.
-use Rattle.std.specs.Prelude.{◌≡◌, List, [], ◌∷◌, ℕ, ◌+◌, ◌-◌, ◌*◌, ◌≤◌, ◌<◌, length}
+use Rattle.std.specs.Prelude.{◌≡◌, List, [], ◌∷◌, ℕ, ◌+◌, ◌-◌, ◌*◌, ◌≤◌, ◌<◌, length, get_or}
 use Rattle.parsimony.specs.Ordered as ordered
 use Rattle.parsimony.specs.Matrix.{state_of}
 use Rattle.parsimony.specs.Character.{at_node}
@@ -9,7 +9,7 @@ use Rattle.rows.specs.Rows.{range_at}
 -- ---- its entries
 
 -- the list has an entry for each interior node, and i is one of the w characters
-pub record Takes (n w i : ℕ) (entries : List ℕ) : Type 0 where
+pub record Takes {A : Type 0} (n w i : ℕ) (entries : List A) : Type 0 where
   pub least : 3 ≤ n
   pub most : n ≤ 256
   pub few : w ≤ 8
@@ -17,7 +17,12 @@ pub record Takes (n w i : ℕ) (entries : List ℕ) : Type 0 where
   pub one : i ≤ w
   pub long : length entries ≡ n - 2
 
--- it has what the block has at the interior nodes
+-- it has what a list of the block has at the interior nodes, the node n + 1 first
+pub record Copied {A : Type 0} (n w i : ℕ) (block entries : List A) : Type 0 where
+  pub long : length entries ≡ n - 2
+  pub copied : (k : ℕ) (d : A) → k < n - 2 → get_or entries k d ≡ get_or block ((n + k) * w + (i - 1)) d
+
+-- the same, said of nodes
 pub record Taken (n w i : ℕ) (block entries : List ℕ) : Type 0 where
   pub long : length entries ≡ n - 2
   pub taken : (v : ℕ) → n < v → v ≤ 2 * n - 2 → at_node n entries v ≡ state_of block w i v

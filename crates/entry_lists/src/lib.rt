@@ -2,57 +2,35 @@
 #![tactic(auto)]
 
 ghost use Rattle.std.specs.Prelude.{◌≡◌};
-ghost use Rattle.entry_lists.specs.EntryLists.{Takes, Taken, Ends, length_at};
+ghost use Rattle.entry_lists.specs.EntryLists.{Takes, Copied, Ends, length_at};
 
 use ranges::Range;
-use refusals::long;
+use rows::Block;
 
-// Takes one of the w characters out of a list of ends: its entries at the interior nodes, the node n + 1 first.
-pub fn take_ends(n: usize, w: usize, i: usize, block: &[u16; 4080], entries: &mut [u16])
+// Takes one of the w characters out of a list of a block: its entries at the interior nodes, the node n + 1 first.
+pub fn take<T: Copy>(n: usize, w: usize, i: usize, list: &[T; 4080], entries: &mut [T])
     requires { Takes n w i entries.old }
-    ensures { Taken n w i block.now entries.new }
+    ensures { Copied n w i list.now entries.new }
 {
-    let mut k: usize = 0;
-    while k < n - 2 {
-        entries[k] = block[(n + k) * w + (i - 1)];
-        k += 1;
-    }
-}
-
-// The same, out of the list of lengths.
-pub fn take_lengths(n: usize, w: usize, i: usize, block: &[u32; 4080], entries: &mut [u32])
-    requires { Takes n w i entries.old }
-    ensures { Taken n w i block.now entries.new }
-{
-    let mut k: usize = 0;
-    while k < n - 2 {
-        entries[k] = block[(n + k) * w + (i - 1)];
-        k += 1;
+    for k in 0..n - 2 {
+        entries[k] = list[(n + k) * w + (i - 1)];
     }
 }
 
 // The length of one of the w characters: what is below the root's descendant, and the distance from there to the root's state.
-pub fn length_of(
-    root: usize,
-    top: usize,
-    w: usize,
-    i: usize,
-    lows: &[u16; 4080],
-    highs: &[u16; 4080],
-    lengths: &[u32; 4080],
-) -> u32
-    requires { Ends root top w i lows.now highs.now lengths.now }
-    ensures { result ≡ length_at root top w i lows.now highs.now lengths.now }
+pub fn length_of(root: usize, top: usize, w: usize, i: usize, block: &Block) -> u32
+    requires { Ends root top w i block.now.lows block.now.highs block.now.lengths }
+    ensures { result ≡ length_at root top w i block.now.lows block.now.highs block.now.lengths }
 {
     let at = (root - 1) * w + (i - 1);
     let below = (top - 1) * w + (i - 1);
     let state = Range {
-        low: lows[at],
-        high: highs[at],
+        low: block.lows[at],
+        high: block.highs[at],
     };
     let range = Range {
-        low: lows[below],
-        high: highs[below],
+        low: block.lows[below],
+        high: block.highs[below],
     };
-    lengths[below] + long(ranges::cost(state, range))
+    block.lengths[below] + u32::from(ranges::cost(state, range))
 }

@@ -4,27 +4,21 @@
 ghost use Rattle.std.specs.Prelude.{◌≡◌, length};
 ghost use Rattle.bodies.specs.Scanned.{Scanned};
 
-use bodies::SheetAnswer;
-use numbers::Parsed;
+use bodies::{Head, Reason, Refusal, refuse};
 
 // Reads a text; the ancestors and then the cells go to `out`.
-pub fn scan(text: &[u8], out: &mut [u16; 16384]) -> SheetAnswer
+pub fn scan(text: &[u8], out: &mut [u16; 16384]) -> Result<Head, Refusal>
     requires { length out.old ≡ 16384 }
     ensures { Scanned text.now result out.new }
 {
     if 32768 < text.len() {
-        return bodies::refuse(12, 0);
+        return Err(refuse(Reason::Long, 0));
     }
-    let first = lines::head(text, 0, b"taxa=");
-    let Parsed::Value(n, after_taxa) = first else {
-        return bodies::refuse(11, 1);
-    };
-    let second = lines::head(text, after_taxa, b"characters=");
-    let Parsed::Value(c, after_characters) = second else {
-        return bodies::refuse(11, 2);
-    };
+    let taxa = lines::head(text, 0, b"taxa=").ok_or(refuse(Reason::Form, 1))?;
+    let characters = lines::head(text, taxa.next, b"characters=").ok_or(refuse(Reason::Form, 2))?;
+    let (n, c) = (taxa.value, characters.value);
     if n < 3 || 256 < n || c < 1 || 512 < c {
-        return bodies::refuse(1, 0);
+        return Err(refuse(Reason::Limits, 0));
     }
-    bodies::read_body(text, after_characters, n, c, out)
+    bodies::read_body(text, characters.next, n, c, out)
 }
