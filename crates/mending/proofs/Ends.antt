@@ -1,6 +1,6 @@
--- Before the first node of a path nothing is settled anew, and after the last the path is mended.
+-- After the last node of a path the path is mended.
 -- Assumes nothing.
-use mathlib.Core.Path.{◌≡◌, refl, subst}
+use mathlib.Core.Path.{◌≡◌, subst}
 use mathlib.Core.List.{List}
 use Prim.Native.Nat.{ℕ, suc, ◌≤◌, ◌<◌}
 use native.Mathlib.Omega.{arith}
@@ -15,7 +15,7 @@ use Rattle.mending.proofs.Climbs as climbs
 use Rattle.mending.proofs.Turns.{MendedTo}
 use Rattle.mending.specs.Mending.{Mended, MendsPath}
 
-module _ (n c j t count : ℕ) (tree matrix left right path lows₀ highs₀ lengths₀ : List ℕ)
+module _ {n c j t count : ℕ} {tree matrix left right path lows₀ highs₀ lengths₀ : List ℕ}
     (M : MendsPath n c j t count tree matrix left right path lows₀ highs₀ lengths₀) where
   abbrev T : Tree
   T = record { n = n; tree = tree; ρ = M.ρ; δ = M.δ; is_tree = M.accepted.is_tree }
@@ -23,28 +23,14 @@ module _ (n c j t count : ℕ) (tree matrix left right path lows₀ highs₀ len
   abbrev MendedBy : (i : ℕ) (lows highs lengths : List ℕ) → Type 0
   MendedBy = MendedTo n c j t count tree matrix lows₀ highs₀ lengths₀
 
-  pub mended-none : MendedBy 0 lows₀ highs₀ lengths₀
-  mended-none =
-      record {
-        turns = omega arith;
-        low_long = M.low_long;
-        high_long = M.high_long;
-        length_long = M.length_long;
-        others = λ u lo hi h. (refl, refl, refl);
-        settled = λ h l. absurd (omega arith);
-        fits = λ h l. absurd (omega arith);
-        small = λ h l. absurd (omega arith);
-        short = λ h l. absurd (omega arith);
-      }
-
-  pub mended-all : (i : ℕ) (lows highs lengths : List ℕ) → MendedBy i lows highs lengths → count ≤ i
+  pub mended-all : {i : ℕ} {lows highs lengths : List ℕ} → MendedBy i lows highs lengths → i ≡ count
       → Mended n c j t tree matrix lows₀ highs₀ lengths₀ lows highs lengths
-  mended-all i lows highs lengths D l =
+  mended-all {i} {lows} {highs} {lengths} D l =
       record {
         low_long = D.low_long;
         high_long = D.high_long;
         length_long = D.length_long;
-        off = λ v lo hi z. D.others v lo hi (λ h m e. not_below v h (omega (arith, D.turns)) e z);
+        off = λ v lo hi z. D.others v lo hi (λ h m e. not_below v h (omega arith) e z);
         on = λ v lo hi z. let (h, m, e) = path-all T t v lo z in
             subst (Settled ordered tree (ranges n (state_of matrix c j) lows highs) (sizes n (state_of matrix c j) lengths)) e
             (D.settled h (omega (arith, M.counts)));

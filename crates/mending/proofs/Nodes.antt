@@ -1,47 +1,25 @@
 -- One node, settled from its two descendants as their entries stand.
 -- Assumes nothing.
-use mathlib.Core.Path.{◌≡◌, refl, sym, ◌∙◌, ap, ap₂, subst}
+use mathlib.Core.Path.{◌≡◌, refl, ◌∙◌, ap, ap₂}
 use mathlib.Core.List.{List, [], ◌∷◌}
-use Prim.Native.Nat.{ℕ, ◌+◌, ◌-◌, ◌≤◌, ◌<◌}
-use native.Mathlib.Decide.{dec_le}
+use Prim.Native.Nat.{ℕ, ◌+◌, ◌-◌}
 use native.Mathlib.Omega.{arith}
-use lib.ListN.{length, get_or, set}
+use lib.ListN.{get_or, set}
 use Rattle.parsimony.specs.Ordered as ordered
 use Rattle.parsimony.specs.Matrix.{state_of}
 use Rattle.parsimony.specs.Character.{at_node, ranges, sizes}
-use Rattle.parsimony.proofs.Sums.{choose_yes, choose_no}
 use Rattle.ranges.specs.declared.Range.{Range}
 use Rattle.ranges.specs.Ranges.{range_of, Joined}
 use Rattle.nodes.specs.Nodes.{Readable, IsAt}
 use Rattle.mending.specs.Mending.{MendsNode, MendedNode}
 
--- ---- the length below a node
-
-pub no_length : (n : ℕ) (lengths : List ℕ) (v : ℕ) → v ≤ n → ◌≡◌ {A = ℕ} 0 (sizes n (λ k. 0) lengths v)
-no_length n lengths v l = sym (choose_yes (dec_le v n) 0 (at_node n lengths v) l)
-
-pub own-length : (n : ℕ) (lengths : List ℕ) (v : ℕ) → n < v → get_or lengths (v - n - 1) 0 ≡ sizes n (λ k. 0) lengths v
-own-length n lengths v l = ap (λ k. get_or lengths k 0) (omega arith) ∙ sym (choose_no (dec_le v n) 0 (at_node n lengths v) (λ m. omega arith))
-
 -- ---- the two descendants, read by the node's place
 
-module _ (n c j v : ℕ) (matrix left right lows highs lengths : List ℕ) (M : MendsNode n c j v matrix left right lows highs lengths) where
-  pub node_place : v - n - 1 < n - 2
-  node_place = omega (arith, M.inner, M.last)
-
-  pub list_place : v - n - 1 < 254
-  list_place = omega (arith, node_place, M.taxa.1)
-
+module _ {n c j v : ℕ} {matrix left right lows highs lengths : List ℕ} (M : MendsNode n c j v matrix left right lows highs lengths) where
   -- a descendant d, read in one of the two lists
   module _ (side : List ℕ) (R : Readable n c j (at_node n side v) matrix lows highs) (d : ℕ) (e : d ≡ get_or side (v - n - 1) 0) where
     side_is : d ≡ at_node n side v
     side_is = e ∙ ap (λ k. get_or side k 0) (omega (arith, M.inner))
-
-    pub reads : Readable n c j d matrix lows highs
-    reads = subst (λ k. Readable n c j k matrix lows highs) (sym side_is) R
-
-    pub length_reads : (n < d → d - n - 1 < length lengths) × (d ≤ 510)
-    length_reads = (λ l. omega (arith, reads.last, M.long), omega (arith, reads.last, M.taxa.1))
 
     range_is : (r : Range) → IsAt n c j d matrix lows highs r → range_of r ≡ ranges n (state_of matrix c j) lows highs (at_node n side v)
     range_is r A = A.range ∙ ap (ranges n (state_of matrix c j) lows highs) side_is
@@ -51,9 +29,6 @@ module _ (n c j v : ℕ) (matrix left right lows highs lengths : List ℕ) (M : 
 
   module _ (a b : ℕ) (ea : a ≡ get_or left (v - n - 1) 0) (eb : b ≡ get_or right (v - n - 1) 0) (x y : Range) (X : IsAt n c j a matrix lows highs x)
       (Y : IsAt n c j b matrix lows highs y) (la lb : ℕ) (sa : la ≡ sizes n (λ k. 0) lengths a) (sb : lb ≡ sizes n (λ k. 0) lengths b) where
-    pub sum_small : la + lb ≤ 4294901760
-    sum_small = omega (arith, size_is left M.first a ea la sa, size_is right M.second b eb lb sb, M.small)
-
     pub mended : (r : Range) → Joined (range_of x ∷ range_of y ∷ []) r → (k k' : ℕ) → k' ≡ k → k ≡ ordered.cost (range_of x ∷ range_of y ∷ [])
         → MendedNode n c j v matrix left right lows highs lengths (set lows (v - n - 1) r.low) (set highs (v - n - 1) r.high)
         (set lengths (v - n - 1) (la + lb + k'))

@@ -28,7 +28,7 @@ use Rattle.mending.proofs.Climbs as climbs
 use Rattle.mending.proofs.Turns.{MendedTo}
 use Rattle.mending.specs.Mending.{SameAt, MendsNode, MendedNode, MendsPath}
 
-module _ (n c j t count : ℕ) (tree matrix left right path lows₀ highs₀ lengths₀ : List ℕ)
+module _ {n c j t count : ℕ} {tree matrix left right path lows₀ highs₀ lengths₀ : List ℕ}
     (M : MendsPath n c j t count tree matrix left right path lows₀ highs₀ lengths₀) where
   abbrev T : Tree
   T = record { n = n; tree = tree; ρ = M.ρ; δ = M.δ; is_tree = M.accepted.is_tree }
@@ -61,9 +61,13 @@ module _ (n c j t count : ℕ) (tree matrix left right path lows₀ highs₀ len
   abbrev MendedBy : (i : ℕ) (lows highs lengths : List ℕ) → Type 0
   MendedBy = MendedTo n c j t count tree matrix lows₀ highs₀ lengths₀
 
+  -- the list has room for the path
+  pub room : count ≤ 254
+  room = omega (arith, M.counts, path-short T t, M.sized.nodes, M.sized.most)
+
   -- ---- one node more
 
-  module _ (i : ℕ) (l : i < count) (lows highs lengths : List ℕ) (D : MendedBy i lows highs lengths) where
+  module _ {i : ℕ} (l : i < count) {lows highs lengths : List ℕ} (D : MendedBy i lows highs lengths) where
     abbrev v : ℕ
     v = step i
 
@@ -180,9 +184,6 @@ module _ (n c j t count : ℕ) (tree matrix left right path lows₀ highs₀ len
           fits = K.fits;
         }
 
-    few : i < 254
-    few = omega (arith, M.counts, path-short T t, M.sized.nodes, M.sized.most)
-
     -- what is known of both, whichever of them is where the climb was
     record Both : Type 0 where
       pub first : Readable n c j a matrix lows highs
@@ -217,7 +218,7 @@ module _ (n c j t count : ℕ) (tree matrix left right path lows₀ highs₀ len
           first = known.first;
           second = known.second;
           long = D.length_long;
-          small = omega (arith, known.sum-short, few);
+          small = omega (arith, known.sum-short, room);
         }
 
     -- the node is settled, and all before it stay so
@@ -227,17 +228,17 @@ module _ (n c j t count : ℕ) (tree matrix left right path lows₀ highs₀ len
           sizes n (λ k. 0) lengths a + sizes n (λ k. 0) lengths b
           + ordered.cost (ranges n state lows highs a ∷ ranges n state lows highs b ∷ [])
 
-      room : v - n - 1 < n - 2
-      room = omega (arith, lo, hi, M.sized.nodes)
+      place : v - n - 1 < n - 2
+      place = omega (arith, lo, hi, M.sized.nodes)
 
       low-here : at_node n lows' v ≡ W.range.low
-      low-here = ap (λ l. at_node n l v) W.low_written ∙ entry-written n lows v W.range.low lo (omega (arith, room, D.low_long))
+      low-here = ap (λ l. at_node n l v) W.low_written ∙ entry-written n lows v W.range.low lo (omega (arith, place, D.low_long))
 
       high-here : at_node n highs' v ≡ W.range.high
-      high-here = ap (λ l. at_node n l v) W.high_written ∙ entry-written n highs v W.range.high lo (omega (arith, room, D.high_long))
+      high-here = ap (λ l. at_node n l v) W.high_written ∙ entry-written n highs v W.range.high lo (omega (arith, place, D.high_long))
 
       length-here : at_node n lengths' v ≡ new
-      length-here = ap (λ l. at_node n l v) W.length_written ∙ entry-written n lengths v new lo (omega (arith, room, D.length_long))
+      length-here = ap (λ l. at_node n l v) W.length_written ∙ entry-written n lengths v new lo (omega (arith, place, D.length_long))
 
       other : (u : ℕ) → n < u → u ≢ v → SameAt n lows highs lengths lows' highs' lengths' u
       other u x d = (
@@ -322,7 +323,6 @@ module _ (n c j t count : ℕ) (tree matrix left right path lows₀ highs₀ len
       mended-more : MendedBy (i + 1) lows' highs' lengths'
       mended-more =
           record {
-            turns = omega arith;
             low_long = ap length W.low_written ∙ length-set lows (v - n - 1) W.range.low ∙ D.low_long;
             high_long = ap length W.high_written ∙ length-set highs (v - n - 1) W.range.high ∙ D.high_long;
             length_long = ap length W.length_written ∙ length-set lengths (v - n - 1) new ∙ D.length_long;
@@ -356,7 +356,7 @@ module _ (n c j t count : ℕ) (tree matrix left right path lows₀ highs₀ len
           short h m (no e) = let (p, q, r) = before h (omega arith) in omega (arith, D.short h (omega arith))
 
     -- the same of a node that is known to be the one whose turn it is
-    module _ (u : ℕ) (e : u ≡ get_or path i 0) where
+    module _ {u : ℕ} (e : u ≡ get_or path i 0) where
       here : u ≡ v
       here = e ∙ step_is i l
 
@@ -370,6 +370,3 @@ module _ (n c j t count : ℕ) (tree matrix left right path lows₀ highs₀ len
           (λ x. (lows' highs' lengths' : List ℕ) → MendedNode n c j x matrix left right lows highs lengths lows' highs' lengths'
           → MendedBy (i + 1) lows' highs' lengths')
           (sym here) mended-more
-
-    pub turn_place : i < 254
-    turn_place = few

@@ -14,7 +14,6 @@ use Rattle.mending.specs.Mending.{SameAt}
 
 module _ (n c j t count : ℕ) (tree matrix lows₀ highs₀ lengths₀ : List ℕ) where
   pub record MendedTo (i : ℕ) (lows highs lengths : List ℕ) : Type 0 where
-    pub turns : i ≤ count
     pub low_long : length lows ≡ n - 2
     pub high_long : length highs ≡ n - 2
     pub length_long : length lengths ≡ n - 2

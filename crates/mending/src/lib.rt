@@ -6,7 +6,8 @@ ghost use Rattle.parsimony.specs.Matrix.{state_of};
 ghost use Rattle.parsimony.specs.Character.{sizes};
 ghost use Rattle.mending.specs.Mending.{MendsNode, MendedNode, MendsPath, Mended};
 
-use refusals::{long, wide};
+use paths::Path;
+use shapes::Shape;
 
 // The length below a node: none at a taxon.
 fn length_at(n: usize, node: usize, lengths: &[u32]) -> u32
@@ -23,19 +24,18 @@ fn mend_node(
     character: usize,
     node: usize,
     matrix: &[u16],
-    left: &[u16; 254],
-    right: &[u16; 254],
+    shape: &Shape,
     lows: &mut [u16],
     highs: &mut [u16],
     lengths: &mut [u32],
 )
-    requires { MendsNode n c character node matrix.now left.now right.now lows.old highs.old lengths.old }
-    ensures { MendedNode n c character node matrix.now left.now right.now
+    requires { MendsNode n c character node matrix.now shape.now.left shape.now.right lows.old highs.old lengths.old }
+    ensures { MendedNode n c character node matrix.now shape.now.left shape.now.right
         lows.old highs.old lengths.old lows.new highs.new lengths.new }
 {
     let at = node - n - 1;
-    let a = wide(left[at]);
-    let b = wide(right[at]);
+    let a = usize::from(shape.left[at]);
+    let b = usize::from(shape.right[at]);
     let x = nodes::range_at(n, c, character, a, matrix, lows, highs);
     let y = nodes::range_at(n, c, character, b, matrix, lows, highs);
     let joined = ranges::join(x, y);
@@ -43,7 +43,7 @@ fn mend_node(
     let below = length_at(n, a, lengths) + length_at(n, b, lengths);
     lows[at] = joined.low;
     highs[at] = joined.high;
-    lengths[at] = below + long(cost);
+    lengths[at] = below + u32::from(cost);
 }
 
 // Settles each node of a path, from the taxon up.
@@ -52,34 +52,22 @@ pub fn mend_path(
     c: usize,
     character: usize,
     taxon: usize,
-    count: usize,
     tree: &[u16],
     matrix: &[u16],
-    left: &[u16; 254],
-    right: &[u16; 254],
-    path: &[u16; 254],
+    shape: &Shape,
+    path: &Path,
     lows: &mut [u16],
     highs: &mut [u16],
     lengths: &mut [u32],
 )
-    requires { MendsPath n c character taxon count tree.now matrix.now left.now right.now path.now lows.old highs.old lengths.old }
+    requires { MendsPath n c character taxon path.now.count tree.now matrix.now shape.now.left shape.now.right path.now.nodes
+        lows.old highs.old lengths.old }
     ensures { Mended n c character taxon tree.now matrix.now lows.old highs.old lengths.old
         lows.new highs.new lengths.new }
 {
-    let mut i: usize = 0;
-    while i < count {
-        mend_node(
-            n,
-            c,
-            character,
-            wide(path[i]),
-            matrix,
-            left,
-            right,
-            lows,
-            highs,
-            lengths,
-        );
-        i += 1;
+    // By the index: over `&path.nodes[..path.count]` the edit nothing_mended would be refused for a name that is gone, and not for a fact.
+    for i in 0..path.count {
+        let node = usize::from(path.nodes[i]);
+        mend_node(n, c, character, node, matrix, shape, lows, highs, lengths);
     }
 }

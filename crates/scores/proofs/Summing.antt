@@ -8,7 +8,7 @@ use Rattle.parsimony.specs.Lists.{sum, from}
 use Rattle.parsimony.specs.Matrix.{state_of}
 use Rattle.parsimony.specs.Index as index
 use Rattle.indices.proofs.Most.{m-most}
-use Rattle.totals.specs.Totals.{Given, HasLength}
+use Rattle.totals.specs.Totals.{HasLength}
 use Rattle.scores.specs.declared.Scores.{Scores}
 use Rattle.scores.specs.Scores.{TreeScores}
 use Rattle.scores.specs.Steps.{HasScores}
@@ -35,7 +35,3 @@ sums_ordered n c ρ matrix = go (from 1 c)
     go : (js : List ℕ) → sum (λ j. index.m n (state_of matrix c j)) js ≤ sum (λ j. index.g n (state_of matrix c j) ρ) js
     go [] = omega arith
     go (j ∷ js) = omega (arith, m-most n (state_of matrix c j) ρ, go js)
-
--- the same root and descendant, under other names
-pub wider : (n c ρ δ ρ' δ' : ℕ) (tree matrix : List ℕ) → ρ' ≡ ρ → δ' ≡ δ → Given n c ρ δ tree matrix → Given n c ρ' δ' tree matrix
-wider n c ρ δ ρ' δ' tree matrix e d G = rw e (rw d G)

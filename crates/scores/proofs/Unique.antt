@@ -5,6 +5,7 @@ use mathlib.Core.List.{List}
 use Prim.Native.Nat.{ℕ, ◌-◌, ◌*◌, ◌≤◌, ◌<◌}
 use native.Mathlib.Omega.{arith}
 use lib.ListN.{length}
+use Rattle.std.specs.Prelude.{Option, Some, None}
 use Rattle.parsimony.specs.Table.{Accepted}
 use Rattle.parsimony.specs.Ordered.{ordered}
 use Rattle.parsimony.specs.Character.{at_node, cells, ranges, way_of}
@@ -17,8 +18,7 @@ use Rattle.parsimony.proofs.Ranges.Distances.{pos_same}
 use Rattle.parsimony.proofs.Ranges.Laws.{ordered_laws}
 use Rattle.parsimony.proofs.Tables.Chosen.{one_way}
 use Rattle.parsimony.proofs.Tables.Trees.{Tree}
-use Rattle.indices.specs.declared.Index.{Index}
-use Rattle.indices.specs.declared.Index.TheVariants.{Fraction, None}
+use Rattle.indices.specs.declared.Fraction.{Fraction}
 use Rattle.indices.specs.Indices.{index_of}
 use Rattle.choices.specs.declared.Resolve.{Resolve}
 use Rattle.choices.specs.declared.Resolve.TheVariants.{Acctran, Deltran}
@@ -33,16 +33,16 @@ nones (index.fraction a b) = 0
 nones index.none = 1
 
 -- an index is known by what it says
-index_same : (i i' : Index) → index_of i ≡ index_of i' → i ≡ i'
-index_same (Fraction a b) (Fraction a' b') e = ap₂ Fraction (over e) (under e)
+index_same : (i i' : Option Fraction) → index_of i ≡ index_of i' → i ≡ i'
+index_same (Some f) (Some f') e = λ k. Some (record { over = over e k; under = under e k })
   where
-    over : index.fraction a b ≡ index.fraction a' b' → a ≡ a'
+    over : index.fraction f.over f.under ≡ index.fraction f'.over f'.under → f.over ≡ f'.over
     over q = cc
 
-    under : index.fraction a b ≡ index.fraction a' b' → b ≡ b'
+    under : index.fraction f.over f.under ≡ index.fraction f'.over f'.under → f.under ≡ f'.under
     under q = cc
-index_same (Fraction a b) None e = let z : ◌≡◌ {A = ℕ} 0 1 = ap nones e in absurd (omega arith)
-index_same None (Fraction a b) e = let z : ◌≡◌ {A = ℕ} 1 0 = ap nones e in absurd (omega arith)
+index_same (Some f) None e = let z : ◌≡◌ {A = ℕ} 0 1 = ap nones e in absurd (omega arith)
+index_same None (Some f) e = let z : ◌≡◌ {A = ℕ} 1 0 = ap nones e in absurd (omega arith)
 index_same None None e = refl
 
 scores-same : (s s' : Scores) → s.length ≡ s'.length → s.m ≡ s'.m → s.g ≡ s'.g → HasIndices s → HasIndices s' → s ≡ s'
@@ -56,7 +56,7 @@ scores-same s s' el em eg I I' = made s.ci s'.ci s.ri s'.ri el em eg same-ci sam
         index_same s.ri s'.ri
         (I.ri ∙ ap (λ x. index.ri x s.length s.g) em ∙ ap₂ (λ x y. index.ri s'.m x y) el eg ∙ sym I'.ri)
 
-    made : {l l' m m' g g' : ℕ} (c c' r r' : Index) → l ≡ l' → m ≡ m' → g ≡ g' → c ≡ c' → r ≡ r'
+    made : {l l' m m' g g' : ℕ} (c c' r r' : Option Fraction) → l ≡ l' → m ≡ m' → g ≡ g' → c ≡ c' → r ≡ r'
         → ◌≡◌ {A = Scores} (record { length = l; m = m; g = g; ci = c; ri = r }) (record { length = l'; m = m'; g = g'; ci = c'; ri = r' })
     made c c' r r' a b d e f = cc
 

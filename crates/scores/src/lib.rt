@@ -6,17 +6,16 @@ ghost use Rattle.scores.specs.Scores.{TreeScores};
 ghost use Rattle.totals.specs.Totals as totals;
 ghost use Rattle.scores.specs.Steps.{HasScores};
 
-use indices::Index;
-use refusals::wide;
+use indices::Fraction;
 
 // What a character or a tree scores: its length, m, g, and its indices.
-#[derive(Clone, Copy)]
+#[derive(Clone, Copy, Debug, PartialEq, Eq)]
 pub struct Scores {
     pub length: u32,
     pub m: u32,
     pub g: u32,
-    pub ci: Index,
-    pub ri: Index,
+    pub ci: Option<Fraction>,
+    pub ri: Option<Fraction>,
 }
 
 // The scores from the three numbers.
@@ -38,8 +37,8 @@ pub fn score_all(n: usize, c: usize, root: u16, top: u16, tree: &[u16], matrix: 
     requires { totals.Given n c root top tree.now matrix.now }
     ensures { TreeScores n c matrix.now tree.now root result }
 {
-    let root = wide(root);
-    let top = wide(top);
+    let root = usize::from(root);
+    let top = usize::from(top);
     let length = totals::total_length(n, c, root, top, tree, matrix);
     let m = extents::total_m(n, c, matrix);
     let g = extents::total_g(n, c, root, matrix);
