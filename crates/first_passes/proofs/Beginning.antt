@@ -9,14 +9,13 @@ use Rattle.parsimony.specs.Meaning.{LengthMeans}
 use Rattle.parsimony.specs.Steps.{FirstPass}
 use Rattle.parsimony.specs.Matrix.{state_of}
 use Rattle.parsimony.specs.Character.{cells, ranges, sizes}
-use Rattle.shapes.specs.Filling.{Orders}
 use Rattle.rows.specs.Rows.{Room}
 use Rattle.passes.specs.Passes.{Passable, Passed}
-use Rattle.entry_lists.specs.EntryLists.{Taken, Ends, length_at}
-use Rattle.entry_lists.proofs.Passed.{one_settles, one-fits, ends, length_is}
-use Rattle.first_passes.specs.FirstPasses.{Given, BegunIn}
+use Rattle.entry_lists.specs.EntryLists.{Copied, Taken, Ends, length_at}
+use Rattle.entry_lists.proofs.Passed.{taken, one_settles, one-fits, ends, length_is}
+use Rattle.first_passes.specs.FirstPasses.{Given, Begun}
 
-module _ (n c j ρ δ : ℕ) (left right matrix : List ℕ) (G : Given n c j ρ δ left right matrix) where
+module _ {n c j ρ δ : ℕ} {left right matrix : List ℕ} (G : Given n c j ρ δ left right matrix) where
   -- the character after the first j - 1
   this : j - 1 + 1 ≡ j
   this = omega (arith, G.some)
@@ -42,26 +41,24 @@ module _ (n c j ρ δ : ℕ) (left right matrix : List ℕ) (G : Given n c j ρ 
         small = λ i k p q r s. subst (λ x. state_of matrix c x k ≤ 9999) (sym (only i p q)) (G.small k r s);
       }
 
-  module _ (lows highs lengths : List ℕ) (P : Passed n c (j - 1) 1 δ left right matrix lows highs lengths) where
+  module _ {lows highs lengths : List ℕ} (P : Passed n c (j - 1) 1 δ left right matrix lows highs lengths) where
     pub ends-here : Ends ρ δ 1 1 lows highs lengths
-    ends-here =
-        ends n c (j - 1) 1 δ G.tree ρ left right matrix G.orders lows highs lengths (P G.tree ρ G.orders) 1 (omega arith) (omega arith)
-        (omega arith)
+    ends-here = ends G.orders (P G.tree ρ G.orders) 1 (omega arith) (omega arith) (omega arith)
 
-    pub begun : (flows fhighs flengths : List ℕ) → Taken n 1 1 lows flows → Taken n 1 1 highs fhighs → Taken n 1 1 lengths flengths
-        → (l : ℕ) → l ≡ length_at ρ δ 1 1 lows highs lengths
-        → (tree : List ℕ) → Orders n δ tree ρ left right → BegunIn n c j tree matrix flows fhighs flengths l
-    begun flows fhighs flengths E F H l e tree O =
-        let S = one_settles n c (j - 1) 1 δ tree ρ left right matrix O lows highs lengths (P tree ρ O) 1 (omega arith) (omega arith) flows fhighs
-        flengths E F H in
+    pub begun : {flows fhighs flengths : List ℕ} → Copied n 1 1 lows flows → Copied n 1 1 highs fhighs → Copied n 1 1 lengths flengths
+        → {l : ℕ} → l ≡ length_at ρ δ 1 1 lows highs lengths → Begun n c j ρ δ left right matrix flows fhighs flengths l
+    begun {flows} {fhighs} {flengths} E F H e tree O =
+        let Q = P tree ρ O in
         record {
           low_long = E.long;
           high_long = F.long;
           length_long = H.long;
-          fits = λ v lo hi. (one-fits n c (j - 1) 1 δ tree ρ left right matrix O lows highs lengths (P tree ρ O) 1 (omega arith) (omega arith)
-              flows fhighs flengths E F H v lo hi).0;
+          fits = λ v lo hi. (one-fits O Q 1 (omega arith) (omega arith) (one E) (one F) (one H) v lo hi).0;
           pass = subst (λ x. FirstPass ordered n (cells n (state_of matrix c x)) tree (ranges n (state_of matrix c x) flows fhighs)
-              (sizes n (state_of matrix c x) flengths)) this S;
+              (sizes n (state_of matrix c x) flengths)) this (one_settles O Q 1 (omega arith) (omega arith) (one E) (one F) (one H));
           least = rw e (subst (λ x. LengthMeans ordered n (cells n (state_of matrix c x)) tree (length_at ρ δ 1 1 lows highs lengths)) this
-              (length_is n c (j - 1) 1 δ tree ρ left right matrix O lows highs lengths (P tree ρ O) 1 (omega arith) (omega arith)));
+              (length_is O Q 1 (omega arith) (omega arith)));
         }
+      where
+        one : {block entries : List ℕ} → Copied n 1 1 block entries → Taken n 1 1 block entries
+        one = taken (omega arith)

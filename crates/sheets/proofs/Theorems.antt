@@ -16,8 +16,10 @@ use Rattle.forms.specs.Faults.{NotInForm}
 use Rattle.forms.proofs.Forms as forms
 use Rattle.forms.proofs.Missing as missing
 use Rattle.forms.proofs.Unique as sheet
-use Rattle.bodies.specs.declared.SheetAnswer.{SheetAnswer}
-use Rattle.bodies.specs.declared.SheetAnswer.TheVariants.{Read, Refused}
+use Rattle.std.specs.Prelude.{Result, Ok, Err}
+use Rattle.refusals.specs.declared.Reason.TheVariants.{Form}
+use Rattle.refusals.specs.Reasons.{number}
+use Rattle.bodies.specs.declared.Head.{Head}
 use Rattle.sheets.specs.Answers.{sheet_checks, Answers}
 use Rattle.sheets.proofs.Refusing as refusing
 use Rattle.sheets.proofs.Unique as unique
@@ -40,7 +42,8 @@ in_form_before text j k h f = forms.earlier text j k h f
 
 module _ (text tree matrix : List ℕ) where
   -- What is accepted is exactly the printed form of what was read.
-  pub accepted_is_printed : (n c : ℕ) (r : Resolve) (tree' matrix' : List ℕ) → Answers text tree matrix (Read n c r) tree' matrix'
+  pub accepted_is_printed : (n c : ℕ) (r : Resolve) (tree' matrix' : List ℕ)
+      → Answers text tree matrix (Ok (record { n = n; c = c; resolve = r })) tree' matrix'
       → (s : Sheet) × (s.taxa ≡ n) × (s.characters ≡ c) × (choice s.last ≡ r) × (text ≡ flatten (lines_of s))
       × (tree' ≡ s.ancestors ++ drop (length s.ancestors) tree) × (matrix' ≡ flatten s.rows ++ drop (length (flatten s.rows)) matrix)
   accepted_is_printed n c r tree' matrix' R =
@@ -48,42 +51,42 @@ module _ (text tree matrix : List ℕ) where
 
   -- Every sheet in form is accepted, with what it says; entries past those used keep their values.
   pub every-sheet-accepted : (s : Sheet) → IsSheet text s → length tree ≡ 510 → length matrix ≡ 16384
-      → (a : SheetAnswer) (tree' matrix' : List ℕ) → Answers text tree matrix a tree' matrix'
-      → (a ≡ Read s.taxa s.characters (choice s.last))
+      → (a : Result Head Refusal) (tree' matrix' : List ℕ) → Answers text tree matrix a tree' matrix'
+      → (a ≡ Ok (record { n = s.taxa; c = s.characters; resolve = choice s.last }))
       × (tree' ≡ s.ancestors ++ drop (length s.ancestors) tree) × (matrix' ≡ flatten s.rows ++ drop (length (flatten s.rows)) matrix)
   every-sheet-accepted s S h g a tree' matrix' A =
       unique.one_outcome text tree matrix a _ tree' _ matrix' _ A (unique.sheet-answer text tree matrix s S h g)
 
   -- The line of a refusal 11 is the lowest that is not in form: those before it are, and it is not, or is missing.
-  pub lowest-line-refused : (q : Refusal) (tree' matrix' : List ℕ) → q.number ≡ 11 → Answers text tree matrix (Refused q) tree' matrix'
+  pub lowest-line-refused : (q : Refusal) (tree' matrix' : List ℕ) → number q ≡ 11 → Answers text tree matrix (Err q) tree' matrix'
       → Lowest (NotInForm text) 261 q.place
   lowest-line-refused q tree' matrix' e (h, _, _) = unique.refused-line text tree matrix q e h
 
   -- "so is a missing line, at the number it would have": a text that stops after k lines of a sheet, before its last row.
   pub missing_line_refused : (s : Sheet) (k : ℕ) → Sized s → Within s.taxa s.characters → k < 3 + length s.rows
       → text ≡ flatten (take k (lines_of s)) → length text ≤ 32768 → length tree ≡ 510 → length matrix ≡ 16384
-      → (a : SheetAnswer) (tree' matrix' : List ℕ) → Answers text tree matrix a tree' matrix' → a ≡ Refused (record { number = 11; place = suc k })
+      → (a : Result Head Refusal) (tree' matrix' : List ℕ) → Answers text tree matrix a tree' matrix' → a ≡ Err (record { reason = Form; place = suc k })
   missing_line_refused s k Z W l e short h g a tree' matrix' A =
-      (unique.one_outcome text tree matrix a (Refused (record { number = 11; place = suc k })) tree' tree matrix' matrix A (
-        refusing.refused_text text tree matrix (record { number = 11; place = suc k }) h g (missing.refused_missing text s Z W short k l e),
+      (unique.one_outcome text tree matrix a (Err (record { reason = Form; place = suc k })) tree' tree matrix' matrix A (
+        refusing.refused_text text tree matrix (record { reason = Form; place = suc k }) h g (missing.refused_missing text s Z W short k l e),
         refl,
         refl,
       )).0
 
   -- A refused text changes nothing.
-  pub refused_changes_nothing : (q : Refusal) (tree' matrix' : List ℕ) → Answers text tree matrix (Refused q) tree' matrix'
+  pub refused_changes_nothing : (q : Refusal) (tree' matrix' : List ℕ) → Answers text tree matrix (Err q) tree' matrix'
       → (tree' ≡ tree) × (matrix' ≡ matrix)
   refused_changes_nothing q tree' matrix' (_, e, f) = (e, f)
 
   -- A text is refused exactly with the first of the call's checks that applies, and no other is.
-  pub refused_exactly : (a : SheetAnswer) (q : Refusal) (tree' matrix' : List ℕ) → Answers text tree matrix a tree' matrix'
-      → (a ≡ Refused q) ↔ Refuses (sheet_checks text tree matrix) q
+  pub refused_exactly : (a : Result Head Refusal) (q : Refusal) (tree' matrix' : List ℕ) → Answers text tree matrix a tree' matrix'
+      → (a ≡ Err q) ↔ Refuses (sheet_checks text tree matrix) q
   refused_exactly a q tree' matrix' A = (
-    λ e. (subst (λ (b : SheetAnswer). Answers text tree matrix b tree' matrix') e A).0,
-    λ h. (unique.one_outcome text tree matrix a (Refused q) tree' tree matrix' matrix A (h, refl, refl)).0,
+    λ e. (subst (λ (b : Result Head Refusal). Answers text tree matrix b tree' matrix') e A).0,
+    λ h. (unique.one_outcome text tree matrix a (Err q) tree' tree matrix' matrix A (h, refl, refl)).0,
   )
 
   -- From the contract alone any two outcomes are equal: the answer, and what both slices hold afterwards.
-  pub one_outcome : (a a' : SheetAnswer) (t t' m m' : List ℕ) → Answers text tree matrix a t m → Answers text tree matrix a' t' m'
+  pub one_outcome : (a a' : Result Head Refusal) (t t' m m' : List ℕ) → Answers text tree matrix a t m → Answers text tree matrix a' t' m'
       → (a ≡ a') × (t ≡ t') × (m ≡ m')
   one_outcome a a' t t' m m' A B = unique.one_outcome text tree matrix a a' t t' m m' A B

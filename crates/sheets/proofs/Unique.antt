@@ -14,9 +14,14 @@ use Rattle.refusals.proofs.Order.{AllSure, sure_at, sure_lowest, one-refusal, no
 use Rattle.forms.specs.Sheets.{Sheet, choice, IsSheet}
 use Rattle.forms.specs.Faults.{TooLong, NotInForm, Outside}
 use Rattle.forms.proofs.Unique.{one-sheet, sheet-passes}
-use Rattle.bodies.specs.declared.SheetAnswer.{SheetAnswer}
-use Rattle.bodies.specs.declared.SheetAnswer.TheVariants.{Read, Refused}
+use Rattle.std.specs.Prelude.{Result, Ok, Err}
+use Rattle.refusals.specs.Reasons.{number}
+use Rattle.bodies.specs.declared.Head.{Head}
 use Rattle.sheets.specs.Answers.{sheet_checks, Reads, Answers}
+
+-- the answer to a text that is read
+abbrev pub read : ℕ → ℕ → Resolve → Result Head Refusal
+read n c r = Ok (record { n = n; c = c; resolve = r })
 
 module _ (text tree matrix : List ℕ) where
   sure_checks : AllSure (sheet_checks text tree matrix)
@@ -42,30 +47,30 @@ module _ (text tree matrix : List ℕ) where
 
   -- two readings are of one sheet
   read_same : (n c : ℕ) (r : Resolve) (t m : List ℕ) (n' c' : ℕ) (r' : Resolve) (t' m' : List ℕ) → Reads text tree matrix n c r t m
-      → Reads text tree matrix n' c' r' t' m' → (Read n c r ≡ Read n' c' r') × (t ≡ t') × (m ≡ m')
+      → Reads text tree matrix n' c' r' t' m' → (read n c r ≡ read n' c' r') × (t ≡ t') × (m ≡ m')
   read_same n c r t m n' c' r' t' m' R Q =
       let s : R.sheet ≡ Q.sheet = one-sheet text R.sheet Q.sheet R.is_sheet Q.is_sheet in (
-        ap (λ k. Read k c r) (sym R.taxa_is ∙ ap (λ (x : Sheet). x.taxa) s ∙ Q.taxa_is)
-            ∙ ap (λ k. Read n' k r) (sym R.characters_is ∙ ap (λ (x : Sheet). x.characters) s ∙ Q.characters_is)
-            ∙ ap (λ k. Read n' c' k) (sym R.choice_is ∙ ap (λ (x : Sheet). choice x.last) s ∙ Q.choice_is),
+        ap (λ k. read k c r) (sym R.taxa_is ∙ ap (λ (x : Sheet). x.taxa) s ∙ Q.taxa_is)
+            ∙ ap (λ k. read n' k r) (sym R.characters_is ∙ ap (λ (x : Sheet). x.characters) s ∙ Q.characters_is)
+            ∙ ap (λ k. read n' c' k) (sym R.choice_is ∙ ap (λ (x : Sheet). choice x.last) s ∙ Q.choice_is),
         R.tree_after ∙ ap (λ (x : Sheet). x.ancestors ++ drop (length x.ancestors) tree) s ∙ sym Q.tree_after,
         R.matrix_after ∙ ap (λ (x : Sheet). flatten x.rows ++ drop (length (flatten x.rows)) matrix) s ∙ sym Q.matrix_after,
       )
 
-  pub one_outcome : (a a' : SheetAnswer) (t t' m m' : List ℕ) → Answers text tree matrix a t m → Answers text tree matrix a' t' m'
+  pub one_outcome : (a a' : Result Head Refusal) (t t' m m' : List ℕ) → Answers text tree matrix a t m → Answers text tree matrix a' t' m'
       → (a ≡ a') × (t ≡ t') × (m ≡ m')
-  one_outcome (Read n c r) (Read n' c' r') t t' m m' R Q = read_same n c r t m n' c' r' t' m' R Q
-  one_outcome (Read n c r) (Refused q) t t' m m' R (h, _, _) = absurd (read_refused n c r t m q R h)
-  one_outcome (Refused q) (Read n c r) t t' m m' (h, _, _) R = absurd (read_refused n c r t' m' q R h)
-  one_outcome (Refused q) (Refused q') t t' m m' (h, e, f) (h', e', f') = (
-    ap Refused (one-refusal (sheet_checks text tree matrix) sure_checks q q' h h'),
+  one_outcome (Ok h) (Ok h') t t' m m' R Q = read_same h.n h.c h.resolve t m h'.n h'.c h'.resolve t' m' R Q
+  one_outcome (Ok h) (Err q) t t' m m' R (k, _, _) = absurd (read_refused h.n h.c h.resolve t m q R k)
+  one_outcome (Err q) (Ok h) t t' m m' (k, _, _) R = absurd (read_refused h.n h.c h.resolve t' m' q R k)
+  one_outcome (Err q) (Err q') t t' m m' (h, e, f) (h', e', f') = (
+    ap Err (one-refusal (sheet_checks text tree matrix) sure_checks q q' h h'),
     e ∙ sym e',
     f ∙ sym f',
   )
 
   -- what a sheet has to be answered
   pub sheet-answer : (s : Sheet) → IsSheet text s → length tree ≡ 510 → length matrix ≡ 16384
-      → Answers text tree matrix (Read s.taxa s.characters (choice s.last))
+      → Answers text tree matrix (read s.taxa s.characters (choice s.last))
       (s.ancestors ++ drop (length s.ancestors) tree) (flatten s.rows ++ drop (length (flatten s.rows)) matrix)
   sheet-answer s S h g =
       record {
@@ -85,7 +90,7 @@ module _ (text tree matrix : List ℕ) where
   wider : (k : ℕ) → Lowest (NotInForm text) 2 k → Lowest (NotInForm text) 261 k
   wider k L = record { some = L.some; most = omega (arith, L.most); holds = L.holds; first = L.first }
 
-  pub refused-line : (q : Refusal) → q.number ≡ 11 → Refuses (sheet_checks text tree matrix) q → Lowest (NotInForm text) 261 q.place
+  pub refused-line : (q : Refusal) → number q ≡ 11 → Refuses (sheet_checks text tree matrix) q → Lowest (NotInForm text) 261 q.place
   refused-line q e (inl (f, h)) = let z : ◌≡◌ {A = ℕ} 11 2 = sym e ∙ f in absurd (omega arith)
   refused-line q e (inr (n₁, inl (f, h))) = let z : ◌≡◌ {A = ℕ} 11 2 = sym e ∙ f in absurd (omega arith)
   refused-line q e (inr (n₁, inr (n₂, inl (f, h)))) = let z : ◌≡◌ {A = ℕ} 11 12 = sym e ∙ f in absurd (omega arith)

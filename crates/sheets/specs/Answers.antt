@@ -1,14 +1,14 @@
--- What the answer of `read_sheet` says, for each case of the enum, with what the lent slices hold afterwards; and its checks: those of the lent
+-- What the answer of `read_sheet` says, read or refused, with what the lent slices hold afterwards; and its checks: those of the lent
 -- slices first, and then those of the text.
 -- Assumes nothing.
-use Rattle.std.specs.Prelude.{◌≡◌, ℕ, length, drop}
+use Rattle.std.specs.Prelude.{◌≡◌, ℕ, length, drop, Result, Ok, Err}
 use mathlib.Core.List.{List, [], ◌∷◌, ◌++◌, flatten}
 use Rattle.choices.specs.declared.Resolve.{Resolve}
+use Rattle.refusals.specs.declared.Refusal.{Refusal}
 use Rattle.refusals.specs.Checks.{Check, Refuses, Slice, slices}
 use Rattle.forms.specs.Sheets.{Sheet, choice, IsSheet}
 use Rattle.forms.specs.Faults.{text_checks}
-use Rattle.bodies.specs.declared.SheetAnswer.{SheetAnswer}
-use Rattle.bodies.specs.declared.SheetAnswer.TheVariants.{Read, Refused}
+use Rattle.bodies.specs.declared.Head.{Head}
 
 module _ (text tree matrix : List ℕ) where
   -- slice 1: 510 entries, as many as 256 taxa have nodes
@@ -37,6 +37,6 @@ pub record Reads (text tree matrix : List ℕ) (n c : ℕ) (r : Resolve) (tree' 
   pub matrix_after : matrix' ≡ flatten sheet.rows ++ drop (length (flatten sheet.rows)) matrix
 
 -- what an answer says, and what the slices hold afterwards: on a refusal what they held before
-abbrev pub Answers : (text tree matrix : List ℕ) → SheetAnswer → (tree' matrix' : List ℕ) → Type 0
-Answers text tree matrix (Read n c r) tree' matrix' = Reads text tree matrix n c r tree' matrix'
-Answers text tree matrix (Refused q) tree' matrix' = Refuses (sheet_checks text tree matrix) q × (tree' ≡ tree) × (matrix' ≡ matrix)
+abbrev pub Answers : (text tree matrix : List ℕ) → Result Head Refusal → (tree' matrix' : List ℕ) → Type 0
+Answers text tree matrix (Ok h) tree' matrix' = Reads text tree matrix h.n h.c h.resolve tree' matrix'
+Answers text tree matrix (Err q) tree' matrix' = Refuses (sheet_checks text tree matrix) q × (tree' ≡ tree) × (matrix' ≡ matrix)

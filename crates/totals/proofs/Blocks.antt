@@ -21,8 +21,7 @@ use Rattle.rows.specs.Rows.{Room}
 use Rattle.passes.specs.Passes.{Passable, Passed}
 use Rattle.entry_lists.specs.EntryLists.{length_at}
 use Rattle.entry_lists.proofs.Passed.{ends, length_is, length-small}
-use Rattle.extents.specs.Extents.{Cells}
-use Rattle.totals.specs.Totals.{HasLength, Adds, added}
+use Rattle.totals.specs.Totals.{GivenBlocks, LengthIn, Adds, added}
 
 module _ (n c ρ δ : ℕ) (left right matrix : List ℕ) where
   module _ (tree : List ℕ) (O : Orders n δ tree ρ left right) where
@@ -43,16 +42,18 @@ module _ (n c ρ δ : ℕ) (left right matrix : List ℕ) where
     pub small : s ≤ 2549745 * k
     pub sums : (tree : List ℕ) (O : Orders n δ tree ρ left right) → s ≡ sum (least_of tree O) (from 1 k)
 
-  pub sums_none : (lows highs lengths : List ℕ) → Room lows highs lengths → SumsTo 0 0 lows highs lengths
-  sums_none lows highs lengths room = record { within = omega arith; room = room; small = omega arith; sums = λ tree O. refl }
+module _ {n c ρ δ : ℕ} {left right matrix : List ℕ} where
+  pub sums_none : {lows highs lengths : List ℕ} → Room lows highs lengths → SumsTo n c ρ δ left right matrix 0 0 lows highs lengths
+  sums_none room = record { within = omega arith; room = room; small = omega arith; sums = λ tree O. refl }
 
-  pub sums_all : (k s : ℕ) (lows highs lengths : List ℕ) → SumsTo k s lows highs lengths → c ≤ k → (tree : List ℕ) → Orders n δ tree ρ left right
-      → HasLength n c tree matrix s
-  sums_all k s lows highs lengths S l tree O =
+module _ {n c ρ δ : ℕ} {left right matrix : List ℕ} {k s : ℕ} {lows₀ highs₀ lengths₀ : List ℕ}
+    (S : SumsTo n c ρ δ left right matrix k s lows₀ highs₀ lengths₀) where
+  pub sums_all : c ≤ k → LengthIn n c ρ δ left right matrix s
+  sums_all l tree O =
       record {
-        lengths = least_of tree O;
-        least = λ j p q. least-of tree O j;
-        total = S.sums tree O ∙ ap (λ m. sum (least_of tree O) (from 1 m)) all;
+        lengths = least_of n c ρ δ left right matrix tree O;
+        least = λ j p q. least-of n c ρ δ left right matrix tree O j;
+        total = S.sums tree O ∙ ap (λ m. sum (least_of n c ρ δ left right matrix tree O) (from 1 m)) all;
       }
     where
       all : k ≡ c
@@ -60,8 +61,7 @@ module _ (n c ρ δ : ℕ) (left right matrix : List ℕ) where
 
   -- ---- one block
 
-  module _ (k s : ℕ) (lows₀ highs₀ lengths₀ : List ℕ) (S : SumsTo k s lows₀ highs₀ lengths₀) (w : ℕ) (ew : w ≡ min (c - k) 8)
-      (tree₀ : List ℕ) (O₀ : Orders n δ tree₀ ρ left right) (C : Cells n c matrix) where
+  module _ {w : ℕ} (ew : w ≡ min (c - k) 8) (G : GivenBlocks n c ρ δ left right matrix) where
     block_within : k + w ≤ c
     block_within = omega (arith, S.within)
 
@@ -69,48 +69,48 @@ module _ (n c ρ δ : ℕ) (left right matrix : List ℕ) where
     block-few = omega arith
 
     block-small : (i u : ℕ) → 1 ≤ i → i ≤ w → 1 ≤ u → u ≤ n → state_of matrix c (k + i) u ≤ 9999
-    block-small i u p q r t = C.small (k + i) u (omega arith) (omega (arith, block_within)) r t
+    block-small i u p q r t = G.cells.small (k + i) u (omega arith) (omega (arith, block_within)) r t
 
     pub passable : Passable n c k w δ left right matrix lows₀ highs₀ lengths₀
     passable =
         record {
-          tree = tree₀;
+          tree = G.tree;
           ρ = ρ;
-          orders = O₀;
+          orders = G.orders;
           loads =
-              record { rows = omega (arith, C.rows); most = C.most; within = block_within; few = block-few; room = S.room };
+              record { rows = omega (arith, G.cells.rows); most = G.cells.most; within = block_within; few = block-few; room = S.room };
           small = block-small;
         }
 
-    module _ (lows highs lengths : List ℕ) (P : Passed n c k w δ left right matrix lows highs lengths) where
+    module _ {lows highs lengths : List ℕ} (P : Passed n c k w δ left right matrix lows highs lengths) where
       abbrev here : ℕ → ℕ
       here i = length_at ρ δ w i lows highs lengths
 
       here-small : (i : ℕ) → 1 ≤ i → i ≤ w → here i ≤ 2549745
-      here-small i p q =
-          length-small n c k w δ tree₀ ρ left right matrix O₀ lows highs lengths (P tree₀ ρ O₀) i p q (λ u r t. block-small i u p q r t)
+      here-small i p q = length-small G.orders (P G.tree ρ G.orders) i p q (λ u r t. block-small i u p q r t)
 
       pub adds : Adds ρ δ w lows highs lengths s
       adds =
           record {
             few = block-few;
-            ends = λ i p q. ends n c k w δ tree₀ ρ left right matrix O₀ lows highs lengths (P tree₀ ρ O₀) i p q block-few;
+            ends = λ i p q. ends G.orders (P G.tree ρ G.orders) i p q block-few;
             small = here-small;
-            sum_small = omega (arith, S.small, S.within, C.few);
+            sum_small = omega (arith, S.small, S.within, G.cells.few);
           }
 
-      pub sums_on : (t : ℕ) → t ≡ added ρ δ w lows highs lengths s w → SumsTo (k + w) t lows highs lengths
-      sums_on t e =
+      pub sums_on : {t : ℕ} → t ≡ added ρ δ w lows highs lengths s w → SumsTo n c ρ δ left right matrix (k + w) t lows highs lengths
+      sums_on e =
           record {
             within = block_within;
-            room = (P tree₀ ρ O₀).room;
+            room = (P G.tree ρ G.orders).room;
             small = omega (arith, S.small, sum-most here 2549745 w here-small);
             sums = λ tree O.
+                let l = least_of n c ρ δ left right matrix tree O in
                 e ∙ ap (λ x. x + sum here (from 1 w)) (S.sums tree O)
-                ∙ ap (λ x. sum (least_of tree O) (from 1 k) + x) (sum_alike here (λ i. least_of tree O (k + i)) w (same tree O))
-                ∙ sym (sum_parts (least_of tree O) k w);
+                ∙ ap (λ x. sum l (from 1 k) + x) (sum_alike here (λ i. l (k + i)) w (same tree O))
+                ∙ sym (sum_parts l k w);
           }
         where
-          same : (tree : List ℕ) (O : Orders n δ tree ρ left right) (i : ℕ) → 1 ≤ i → i ≤ w → here i ≡ least_of tree O (k + i)
-          same tree O i p q =
-              one-least (length_is n c k w δ tree ρ left right matrix O lows highs lengths (P tree ρ O) i p q) (least-of tree O (k + i))
+          same : (tree : List ℕ) (O : Orders n δ tree ρ left right) (i : ℕ) → 1 ≤ i → i ≤ w
+              → here i ≡ least_of n c ρ δ left right matrix tree O (k + i)
+          same tree O i p q = one-least (length_is O (P tree ρ O) i p q) (least-of n c ρ δ left right matrix tree O (k + i))

@@ -9,7 +9,6 @@ use Rattle.parsimony.specs.Matrix.{state_of}
 use Rattle.parsimony.specs.Character.{cells}
 use Rattle.trees.specs.Answers.{Sized}
 use Rattle.shapes.specs.Filling.{Orders}
-use Rattle.rows.specs.Rows.{Room}
 use Rattle.entry_lists.specs.EntryLists.{Ends, length_at}
 use Rattle.extents.specs.Extents.{Cells}
 
@@ -27,12 +26,11 @@ pub record HasLength (n c : ℕ) (tree matrix : List ℕ) (l : ℕ) : Type 0 whe
 
 -- ---- the steps
 
--- the shape of such a tree, and room for a block
-pub record GivenBlocks (n c ρ δ : ℕ) (left right matrix lows highs lengths : List ℕ) : Type 0 where
+-- the shape of such a tree
+pub record GivenBlocks (n c ρ δ : ℕ) (left right matrix : List ℕ) : Type 0 where
   pub tree : List ℕ
   pub orders : Orders n δ tree ρ left right
   pub cells : Cells n c matrix
-  pub room : Room lows highs lengths
 
 -- in any accepted table of this shape
 abbrev pub LengthIn : (n c ρ δ : ℕ) (left right matrix : List ℕ) (l : ℕ) → Type 0

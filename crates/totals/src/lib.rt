@@ -4,52 +4,34 @@
 ghost use Rattle.std.specs.Prelude.{◌≡◌};
 ghost use Rattle.totals.specs.Totals.{Given, HasLength, GivenBlocks, LengthIn, Adds, added};
 
+use rows::Block;
+use shapes::Shape;
+
 // Adds the lengths of the w characters of a block to a sum.
-fn add_block(
-    root: usize,
-    top: usize,
-    w: usize,
-    lows: &[u16; 4080],
-    highs: &[u16; 4080],
-    lengths: &[u32; 4080],
-    sum: u32,
-) -> u32
-    requires { Adds root top w lows.now highs.now lengths.now sum }
-    ensures { result ≡ added root top w lows.now highs.now lengths.now sum w }
+fn add_block(root: usize, top: usize, w: usize, block: &Block, sum: u32) -> u32
+    requires { Adds root top w block.now.lows block.now.highs block.now.lengths sum }
+    ensures { result ≡ added root top w block.now.lows block.now.highs block.now.lengths sum w }
 {
     let mut total = sum;
-    let mut i: usize = 0;
-    while i < w {
-        total += entry_lists::length_of(root, top, w, i + 1, lows, highs, lengths);
-        i += 1;
+    for i in 0..w {
+        total += entry_lists::length_of(root, top, w, i + 1, block);
     }
     total
 }
 
 // The length of the tree, one block of characters after the other.
-fn sum_blocks(
-    n: usize,
-    c: usize,
-    root: usize,
-    top: usize,
-    left: &[u16; 254],
-    right: &[u16; 254],
-    matrix: &[u16],
-    lows: &mut [u16; 4080],
-    highs: &mut [u16; 4080],
-    lengths: &mut [u32; 4080],
-) -> u32
-    requires { GivenBlocks n c root top left.now right.now matrix.now lows.old highs.old lengths.old }
-    ensures { LengthIn n c root top left.now right.now matrix.now result }
+fn sum_blocks(n: usize, c: usize, root: usize, top: usize, shape: &Shape, matrix: &[u16]) -> u32
+    requires { GivenBlocks n c root top shape.now.left shape.now.right matrix.now }
+    ensures { LengthIn n c root top shape.now.left shape.now.right matrix.now result }
 {
+    let mut block = Block::new();
     let mut sum: u32 = 0;
     let mut done: usize = 0;
+    // A `while`: a turn goes on by the width of its block, and that is not the same in the last.
     while done < c {
         let w = passes::width(c - done);
-        passes::first_pass(
-            n, c, done, w, top, left, right, matrix, lows, highs, lengths,
-        );
-        sum = add_block(root, top, w, lows, highs, lengths, sum);
+        passes::first_pass(n, c, done, w, top, shape, matrix, &mut block);
+        sum = add_block(root, top, w, &block, sum);
         done += w;
     }
     sum
@@ -67,22 +49,6 @@ pub fn total_length(
     requires { Given n c root top tree.now matrix.now }
     ensures { HasLength n c tree.now matrix.now result }
 {
-    let mut left = [0u16; 254];
-    let mut right = [0u16; 254];
-    let mut lows = [0u16; 4080];
-    let mut highs = [0u16; 4080];
-    let mut lengths = [0u32; 4080];
-    shapes::descendants(n, tree, &mut left, &mut right);
-    sum_blocks(
-        n,
-        c,
-        root,
-        top,
-        &left,
-        &right,
-        matrix,
-        &mut lows,
-        &mut highs,
-        &mut lengths,
-    )
+    let shape = shapes::descendants(n, tree);
+    sum_blocks(n, c, root, top, &shape, matrix)
 }

@@ -1,33 +1,32 @@
 -- `read_sheet`: what the scan lists fits the two slices, so it can be copied into them, and what then stands there is what is promised.
 use native.Mathlib.Omega.{arith}
-use mathlib.Core.Path.{◌≡◌}
-use Prim.Native.Nat.{◌+◌, ◌≤◌}
+use mathlib.Core.Path.{sym, ap, ◌∙◌}
+use Prim.Native.Nat.{ℕ, ◌+◌, ◌-◌, ◌*◌, ◌≤◌}
 use lib.ListN.{length}
-use Rattle.sheets.proofs.Copying.{scanned_fits, scanned_long, fits-room, answers}
+use lib.Seq.{length-take-le}
+use Rattle.sheets.proofs.Copying.{held_room, copied}
 use Rattle.sheets.proofs.read_sheet.Goals as goal
-use Rattle.sheets.proofs.read_sheet.Goals.{After-filled_by-filled, After-scan-answer}
+use Rattle.sheets.proofs.read_sheet.Goals.{After-from-c}
 
--- the list of the scan
-long : (c : After-scan-answer) → length c.scan-answer.new.out ≡ 16384
-long c = scanned_long c.args.text.now c.scan-answer.result c.scan-answer.new.out c.scan-answer.ensures
+-- the entries and the cells have their room in the list
+room : (c : After-from-c) → 2 * c.from-n.result - 2 + c.from-n.result * c.from-c.result ≤ 16384
+room c = rw (c.from-n.ensures, c.from-c.ensures) (held_room _ _ _ _ _ c.in_ok-head.ensures)
 
--- what the answer fills has its room
-room : (c : After-filled_by-filled) → (c.filled_by-filled.result.nodes ≤ 510)
-    × (c.filled_by-filled.result.nodes + c.filled_by-filled.result.cells ≤ 16384)
-room c =
-    let (a, b) = fits-room c.scan-answer.result (scanned_fits c.args.text.now c.scan-answer.result
-    c.scan-answer.new.out c.scan-answer.ensures) in
-    (omega (arith, c.filled_by-filled.ensures.nodes), omega (arith, c.filled_by-filled.ensures.nodes, c.filled_by-filled.ensures.cells))
+pub slice_bounds-copy_from_slice-end-4 : goal.slice_bounds-copy_from_slice-end-4
+slice_bounds-copy_from_slice-end-4 c = omega (arith, room (goal.at.slice_bounds-copy_from_slice-end-4 c).After-from-c)
 
-pub filled_by-filled-requires : goal.filled_by-filled-requires
-filled_by-filled-requires c = scanned_fits c.args.text.now c.scan-answer.result _ c.scan-answer.ensures
+pub slice_bounds-copy_from_slice-end-5 : goal.slice_bounds-copy_from_slice-end-5
+slice_bounds-copy_from_slice-end-5 c =
+    sym (length-take-le _ _ (omega (arith, room (goal.at.slice_bounds-copy_from_slice-end-5 c).After-from-c)))
 
-pub copy-requires-2 : goal.copy-requires-2
-copy-requires-2 c = omega (arith, room (goal.at.copy-requires-2 c).After-filled_by-filled, long (goal.at.copy-requires-2 c).After-scan-answer)
+pub slice_bounds-copy_from_slice-end-6 : goal.slice_bounds-copy_from_slice-end-6
+slice_bounds-copy_from_slice-end-6 c =
+    let h : 2 * c.from-n.result - 2 + c.from-n.result * c.from-c.result ≤ length c.scan.new.out =
+    omega (arith, room (goal.at.slice_bounds-copy_from_slice-end-6 c).After-from-c, c.scan.array_long) in h
 
 pub returns : goal.returns
 returns c =
-    answers c.args.text.now c.args.tree.now c.args.matrix.now _
-    _ c.scan-answer.result _ _ (omega arith) (omega arith)
-    c.scan-answer.ensures c.filled_by-filled.ensures c.copy.ensures
-    c.copy-2.ensures
+    copied _ _ _ _ _ c.in_ok-head.ensures _ _ _ _ _ _ (omega arith) (omega arith)
+    (ap (λ (m : ℕ). 2 * m - 2) c.from-n.ensures)
+    (ap (λ (m : ℕ). m * c.from-c.result) c.from-n.ensures ∙ ap (λ (m : ℕ). c.in_ok-head.head.n * m) c.from-c.ensures)
+    c.copy_from_slice.ensures.after c.copy_from_slice-2.ensures.after

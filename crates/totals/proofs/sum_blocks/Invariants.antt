@@ -5,7 +5,7 @@ use Rattle.totals.proofs.Blocks.{SumsTo}
 use Rattle.totals.proofs.sum_blocks.Given as goal
 
 abbrev pub invariant-loop-done : goal.invariant-loop-done
-invariant-loop-done l = SumsTo l.n l.c l.root l.top l.left l.right l.matrix l.done l.sum l.lows l.highs l.lengths
+invariant-loop-done l = SumsTo l.n l.c l.root l.top l.shape.left l.shape.right l.matrix l.done l.sum l.block.lows l.block.highs l.block.lengths
 
 abbrev pub decreases-loop-done : goal.decreases-loop-done
 decreases-loop-done l = l.c - l.done

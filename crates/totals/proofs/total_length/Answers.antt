@@ -2,5 +2,5 @@
 use Rattle.shapes.proofs.Ready.{ready}
 use Rattle.totals.proofs.total_length.Goals as goal
 
-pub descendants-requires : goal.descendants-requires
-descendants-requires c = ready _ _ _ _ c.requires.sized c.requires.accepted
+pub descendants-shape-requires : goal.descendants-shape-requires
+descendants-shape-requires c = ready c.requires.sized c.requires.accepted
