@@ -1,4 +1,6 @@
 -- `build` makes the checks, and then fills the table.
+use mathlib.Core.Path.{refl}
+use Rattle.std.proofs.lemmas.Result.{err_from_is_err_and}
 use Rattle.scores.proofs.Summing.{wider}
 use Rattle.characters.proofs.Calling.{given-all}
 use Rattle.histories.specs.Kept.{Table, table_slices}
@@ -9,6 +11,11 @@ use Rattle.kept.proofs.build.Goals.{Start}
 -- the table as it came
 abbrev table : Start → Table
 table c = record { lows = c.args.lows.now; highs = c.args.highs.now; lengths = c.args.lengths.now }
+
+pub returns-in_err-rooted : goal.returns-in_err-rooted
+returns-in_err-rooted c =
+    let p = err_from_is_err_and c.from_residual.result c.from_residual.ensures.1 in
+    rw (p.1, p.2) (c.in_err-rooted.ensures, refl)
 
 pub fill_table-requires : goal.fill_table-requires
 fill_table-requires c =

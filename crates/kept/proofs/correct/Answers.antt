@@ -1,6 +1,7 @@
 -- `correct` makes the checks in their order, and then corrects the stretch of the character.
 use mathlib.Core.Path.{refl}
 use mathlib.Core.List.{[], ◌∷◌}
+use Rattle.std.proofs.lemmas.Result.{err_from_is_err_and}
 use Rattle.refusals.proofs.Laws.{told_not}
 use Rattle.limits.specs.Limits.{Outside, matrix_slice, lent_slices, Told, InLimits}
 use Rattle.limits.proofs.Lending.{in_limits}
@@ -31,7 +32,9 @@ admit_character-requires c =
 
 pub returns-in_err-admit_character : goal.returns-in_err-admit_character
 returns-in_err-admit_character c =
-    let at = goal.at.returns-in_err-admit_character c in (
+    let at = goal.at.returns-in_err-admit_character c in
+    let p = err_from_is_err_and c.from_residual.result c.from_residual.ensures.1 in
+    rw (p.1, p.2) (
       correct_refused _ _ c.args.taxon c.args.character c.args.state c.args.tree.now c.args.matrix.now (table at.Start)
           (limits at.Else-outside) _ (told-all at.After-lend-from1) _ c.wanted-looked.ensures _ c.in_err-admit_character.ensures,
       refl,

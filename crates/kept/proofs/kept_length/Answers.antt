@@ -1,4 +1,5 @@
 -- `kept_length` makes the checks, and then adds.
+use Rattle.std.proofs.lemmas.Result.{err_from_is_err_and}
 use Rattle.histories.specs.Kept.{Table}
 use Rattle.kept.proofs.Calling.{length-refused, totals, has-lengths}
 use Rattle.kept.proofs.kept_length.Goals as goal
@@ -15,7 +16,8 @@ sum_or-requires c =
 
 pub returns-in_err-rooted : goal.returns-in_err-rooted
 returns-in_err-rooted c =
-    length-refused _ _ c.args.tree.now c.args.matrix.now (table (goal.at.returns-in_err-rooted c).Start) _ c.in_err-rooted.ensures
+    let p = err_from_is_err_and c.from_residual.result c.from_residual.ensures.1 in
+    rw (p.1, p.2) (length-refused _ _ c.args.tree.now c.args.matrix.now (table (goal.at.returns-in_err-rooted c).Start) _ c.in_err-rooted.ensures)
 
 pub returns : goal.returns
 returns c =
