@@ -6,9 +6,8 @@ ghost use Rattle.std.specs.Prelude.{◌≡◌, length, ◌<◌};
 ghost use Rattle.answers.specs.Coded as coded;
 ghost use Rattle.answers.specs.Coded.{limit, Gives};
 
-use characters::Answer;
 use choices::Resolve;
-use indices::Index;
+use indices::Fraction;
 use refusals::Refusal;
 use scores::Scores;
 
@@ -16,32 +15,14 @@ use scores::Scores;
 pub fn code(refusal: Refusal) -> u64
     ensures { (result ≡ coded.code refusal) × (refusal.place < limit) }
 {
-    refusal.number as u64 * 4294967296 + refusal.place as u64
+    u64::from(u32::from(refusal.reason)) * 4294967296 + u64::from(refusal.place)
 }
 
-// A length or a count as one number.
-pub fn longer(length: u32) -> u64
-    ensures { (result ≡ length) × (length < limit) }
+// An index in two numbers: both are 0 if there is none.
+fn ends(index: Option<Fraction>) -> Fraction
+    ensures { (result.over ≡ coded.over index) × (result.under ≡ coded.under index) }
 {
-    length as u64
-}
-
-fn over(index: Index) -> u32
-    ensures { result ≡ coded.over index }
-{
-    match index {
-        Index::Fraction(over, under) => over,
-        Index::None => 0,
-    }
-}
-
-fn under(index: Index) -> u32
-    ensures { result ≡ coded.under index }
-{
-    match index {
-        Index::Fraction(over, under) => under,
-        Index::None => 0,
-    }
+    index.unwrap_or(Fraction { over: 0, under: 0 })
 }
 
 // The scores into a slice of seven entries.
@@ -49,36 +30,27 @@ fn put_scores(scores: Scores, res: &mut [u32])
     requires { length res.old ≡ 7 }
     ensures { res.new ≡ coded.seven scores }
 {
-    let ci = scores.ci;
-    let ri = scores.ri;
-    let ci_over = over(ci);
-    let ci_under = under(ci);
-    let ri_over = over(ri);
-    let ri_under = under(ri);
-    res[0] = scores.length;
-    res[1] = scores.m;
-    res[2] = scores.g;
-    res[3] = ci_over;
-    res[4] = ci_under;
-    res[5] = ri_over;
-    res[6] = ri_under;
+    let ci = ends(scores.ci);
+    let ri = ends(scores.ri);
+    res.copy_from_slice(&[scores.length, scores.m, scores.g, ci.over, ci.under, ri.over, ri.under]);
 }
 
 // An answer as one number, with its scores in the slice.
-pub fn give(answer: Answer, res: &mut [u32]) -> u64
+pub fn give(answer: Result<Scores, Refusal>, res: &mut [u32]) -> u64
     requires { length res.old ≡ 7 }
     ensures { Gives answer res.old res.new result }
 {
     match answer {
-        Answer::Scores(scores) => {
+        Ok(scores) => {
             put_scores(scores, res);
-            longer(scores.length)
+            u64::from(scores.length)
         }
-        Answer::Refused(refusal) => code(refusal),
+        Err(refusal) => code(refusal),
     }
 }
 
 // The choice: 0 is ACCTRAN, any other number DELTRAN.
+// No `From`: the type is of the crate `choices`, and this number is C's alone.
 pub fn resolve_of(number: u8) -> Resolve
     ensures { result ≡ coded.resolve_of number }
 {

@@ -6,7 +6,6 @@ ghost use Rattle.scores.specs.Scores.{CharacterMeans};
 ghost use Rattle.character_scores.specs.CharacterScores.{GivenOne};
 
 use choices::Resolve;
-use refusals::{long, wide};
 use scores::Scores;
 
 // The passes over one character, once no check applies.
@@ -44,21 +43,17 @@ pub fn score_one(
           states = states.new;
         }) result }
 {
-    let mut left = [0u16; 254];
-    let mut right = [0u16; 254];
-    let mut order = [0u16; 254];
-    shapes::descendants(n, tree, &mut left, &mut right);
-    orders::order(n, top, &left, &right, &mut order);
-    let root = wide(root);
-    let top = wide(top);
+    let shape = shapes::descendants(n, tree);
+    let order = orders::order(n, top, &shape);
+    let root = usize::from(root);
+    let top = usize::from(top);
     let length = first_passes::begin(
         n,
         c,
         character,
         root,
         top,
-        &left,
-        &right,
+        &shape,
         matrix,
         first_lows,
         first_highs,
@@ -72,8 +67,7 @@ pub fn score_one(
         top,
         tree,
         matrix,
-        &left,
-        &right,
+        &shape,
         &order,
         first_lows,
         first_highs,
@@ -96,7 +90,7 @@ pub fn score_one(
         final_highs,
         states,
     );
-    let m = long(indices::m(n, c, character, matrix));
+    let m = u32::from(indices::m(n, c, character, matrix));
     let g = indices::g(n, c, character, root, matrix);
     scores::score(length, m, g)
 }

@@ -4,6 +4,7 @@ use mathlib.Core.List.{List, []}
 use Prim.Native.Nat.{ℕ, ◌-◌, ◌*◌}
 use native.Mathlib.Omega.{arith}
 use lib.ListN.{length}
+use Rattle.std.specs.Prelude.{Option, Ok, Err}
 use Rattle.parsimony.specs.Matrix.{state_of}
 use Rattle.refusals.specs.declared.Refusal.{Refusal}
 use Rattle.refusals.specs.Search.{Never}
@@ -12,10 +13,9 @@ use Rattle.cells.specs.Above.{AboveAt}
 use Rattle.cells.proofs.Reading.{none_above, states-small}
 use Rattle.extents.specs.Extents.{Small}
 use Rattle.totals.specs.Totals.{Given}
-use Rattle.limits.specs.declared.Lent.{Lent}
+use Rattle.trees.specs.declared.Rooted.{Rooted}
 use Rattle.limits.specs.Limits.{lent_slices, Told, InLimits}
 use Rattle.limits.proofs.Lending.{exact-clear}
-use Rattle.checks.specs.declared.Admission.TheVariants.{Admitted, Refused}
 use Rattle.checks.specs.Calls.{character_checks, matrix_checks, AdmitsCharacter, AdmitsMatrix}
 use Rattle.checks.proofs.Orders.{admissible, rest-passes, character-passes, matrix-passes, character-inside, matrix-inside, sized}
 use Rattle.choices.specs.declared.Resolve.{Resolve}
@@ -36,14 +36,14 @@ results-long n r (a, (b, (d, (e, (f, (g, z)))))) =
       states = exact-clear 8 (length r.states) (n - 2) g;
     }
 
-module _ (n c j : ℕ) (tree matrix : List ℕ) (before : Results) (L : InLimits n c) (told : Lent)
+module _ (n c j : ℕ) (tree matrix : List ℕ) (before : Results) (L : InLimits n c) (told : Option ℕ)
     (t : Told 1 (lent_slices n c tree matrix (result_slices n before)) told) where
-  pub one-refused : (r : Refusal) → AdmitsCharacter n c j tree matrix told (Refused r)
+  pub one-refused : (r : Refusal) → AdmitsCharacter n c j tree matrix told (Err r)
       → Refuses (character_checks n c j tree matrix (result_slices n before)) r
   one-refused r h = character-inside n c tree matrix (result_slices n before) j L r (h (lent_slices n c tree matrix (result_slices n before)) t)
 
-  module _ (ρ δ : ℕ) (A : AdmitsCharacter n c j tree matrix told (Admitted ρ δ)) where
-    pub given-one : GivenOne n c j ρ δ tree matrix before
+  module _ (w : Rooted) (A : AdmitsCharacter n c j tree matrix told (Ok w)) where
+    pub given-one : GivenOne n c j w.root w.top tree matrix before
     given-one =
         record {
           sized = sized n c tree matrix (result_slices n before) L told t A.0;
@@ -55,13 +55,13 @@ module _ (n c j : ℕ) (tree matrix : List ℕ) (before : Results) (L : InLimits
           long = results-long n before (rest-passes n c tree matrix (result_slices n before) L told t A.0);
         }
 
-    pub one-scored : (resolve : Resolve) (after : Results) (s : Scores) → CharacterMeans n (state_of matrix c j) tree ρ resolve after s
+    pub one-scored : (resolve : Resolve) (after : Results) (s : Scores) → CharacterMeans n (state_of matrix c j) tree w.root resolve after s
         → OneScored n c j resolve tree matrix before after s
     one-scored resolve after s M =
         record {
-          passes = character-passes n c tree matrix (result_slices n before) L told t j A.0 ρ δ A.1 A.2;
-          ρ = ρ;
-          δ = δ;
+          passes = character-passes n c tree matrix (result_slices n before) L told t j A.0 w.root w.top A.1 A.2;
+          ρ = w.root;
+          δ = w.top;
           accepted = A.1;
           means = M;
         }
@@ -73,9 +73,9 @@ all_small : (n : ℕ) (matrix : List ℕ) (c : ℕ) → Never (AboveAt matrix) (
 all_small n matrix c N j k a b = states-small n c j matrix (none_above n c j matrix a b N) k
 
 -- an accepted tree and its matrix, whatever other slices there are
-pub given-all : (n c : ℕ) (tree matrix : List ℕ) (rest : List Slice) (L : InLimits n c) (told : Lent)
-    → Told 1 (lent_slices n c tree matrix rest) told → (ρ δ : ℕ) → AdmitsMatrix n c tree matrix told (Admitted ρ δ) → Given n c ρ δ tree matrix
-given-all n c tree matrix rest L told t ρ δ A =
+pub given-all : (n c : ℕ) (tree matrix : List ℕ) (rest : List Slice) (L : InLimits n c) (told : Option ℕ)
+    → Told 1 (lent_slices n c tree matrix rest) told → (w : Rooted) → AdmitsMatrix n c tree matrix told (Ok w) → Given n c w.root w.top tree matrix
+given-all n c tree matrix rest L told t w A =
     record {
       sized = sized n c tree matrix rest L told t A.0;
       accepted = A.1;
@@ -89,17 +89,17 @@ given-all n c tree matrix rest L told t ρ δ A =
           };
     }
 
-module _ (n c : ℕ) (tree matrix : List ℕ) (L : InLimits n c) (told : Lent) (t : Told 1 (lent_slices n c tree matrix []) told) where
-  pub all-refused : (r : Refusal) → AdmitsMatrix n c tree matrix told (Refused r) → Refuses (matrix_checks n c tree matrix []) r
+module _ (n c : ℕ) (tree matrix : List ℕ) (L : InLimits n c) (told : Option ℕ) (t : Told 1 (lent_slices n c tree matrix []) told) where
+  pub all-refused : (r : Refusal) → AdmitsMatrix n c tree matrix told (Err r) → Refuses (matrix_checks n c tree matrix []) r
   all-refused r h = matrix-inside n c tree matrix [] L r (h (lent_slices n c tree matrix []) t)
 
-  module _ (ρ δ : ℕ) (A : AdmitsMatrix n c tree matrix told (Admitted ρ δ)) where
-    pub all-scored : (s : Scores) → TreeScores n c matrix tree ρ s → AllScored n c tree matrix s
+  module _ (w : Rooted) (A : AdmitsMatrix n c tree matrix told (Ok w)) where
+    pub all-scored : (s : Scores) → TreeScores n c matrix tree w.root s → AllScored n c tree matrix s
     all-scored s M =
         record {
-          passes = matrix-passes n c tree matrix [] L told t A.0 ρ δ A.1 A.2;
-          ρ = ρ;
-          δ = δ;
+          passes = matrix-passes n c tree matrix [] L told t A.0 w.root w.top A.1 A.2;
+          ρ = w.root;
+          δ = w.top;
           accepted = A.1;
           means = M;
         }

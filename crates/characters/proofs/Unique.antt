@@ -4,7 +4,9 @@ use mathlib.Core.Path.{◌≡◌, sym, ◌∙◌, ap, subst}
 use mathlib.Core.List.{List, []}
 use Prim.Native.Nat.{ℕ, ◌-◌, ◌*◌}
 use lib.ListN.{length}
+use Rattle.std.specs.Prelude.{Result, Ok, Err}
 use Rattle.parsimony.specs.Matrix.{state_of}
+use Rattle.refusals.specs.declared.Refusal.{Refusal}
 use Rattle.refusals.proofs.Order.{one-refusal, not_refused}
 use Rattle.trees.proofs.Unique.{one-shape}
 use Rattle.choices.specs.declared.Resolve.{Resolve}
@@ -14,8 +16,6 @@ use Rattle.checks.proofs.Orders.{sure_character, sure_matrix}
 use Rattle.scores.specs.declared.Scores.{Scores}
 use Rattle.scores.specs.Scores.{TreeScores, Results, CharacterMeans}
 use Rattle.scores.proofs.Unique.{one-scores, one-results, one-tree-scores}
-use Rattle.characters.specs.declared.Answer.{Answer}
-use Rattle.characters.specs.declared.Answer.TheVariants as answer
 use Rattle.characters.specs.Afresh.{result_slices, OneScored, OneAnswers, AllScored, AllAnswers}
 
 -- ---- one character
@@ -33,18 +33,18 @@ module _ (n c j : ℕ) (resolve : Resolve) (tree matrix : List ℕ) (before : Re
         one-scores n (state_of matrix c j) tree O.ρ O.δ O.accepted nodes s s' O.means.scores M'.scores,
       )
 
-  pub one_character_outcome : (after after' : Results) (r r' : Answer) → OneAnswers n c j resolve tree matrix before after r
+  pub one_character_outcome : (after after' : Results) (r r' : Result Scores Refusal) → OneAnswers n c j resolve tree matrix before after r
       → OneAnswers n c j resolve tree matrix before after' r' → (after ≡ after') × (r ≡ r')
-  one_character_outcome after after' (answer.Scores s) (answer.Scores s') h h' =
+  one_character_outcome after after' (Ok s) (Ok s') h h' =
       let (p, q) = both-scored after after' s s' h h' in
-      (p, ap answer.Scores q)
-  one_character_outcome after after' (answer.Scores s) (answer.Refused q) h h' =
+      (p, ap Ok q)
+  one_character_outcome after after' (Ok s) (Err q) h h' =
       absurd (not_refused (character_checks n c j tree matrix (result_slices n before)) h.passes q h'.0)
-  one_character_outcome after after' (answer.Refused q) (answer.Scores s) h h' =
+  one_character_outcome after after' (Err q) (Ok s) h h' =
       absurd (not_refused (character_checks n c j tree matrix (result_slices n before)) h'.passes q h.0)
-  one_character_outcome after after' (answer.Refused q) (answer.Refused q') h h' = (
+  one_character_outcome after after' (Err q) (Err q') h h' = (
     h.1 ∙ sym h'.1,
-    ap answer.Refused
+    ap Err
         (one-refusal (character_checks n c j tree matrix (result_slices n before)) (sure_character n c tree matrix (result_slices n before) j) q q'
         h.0 h'.0),
   )
@@ -58,9 +58,9 @@ module _ (n c : ℕ) (tree matrix : List ℕ) where
       let (p, q) = one-shape n tree O.ρ O.δ O.accepted O'.ρ O'.δ O'.accepted in
       one-tree-scores n c matrix tree O.ρ s s' O.means (subst (λ x. TreeScores n c matrix tree x s') (sym p) O'.means)
 
-  pub all-characters-answer : (r r' : Answer) → AllAnswers n c tree matrix r → AllAnswers n c tree matrix r' → r ≡ r'
-  all-characters-answer (answer.Scores s) (answer.Scores s') h h' = ap answer.Scores (both_totals s s' h h')
-  all-characters-answer (answer.Scores s) (answer.Refused q) h h' = absurd (not_refused (matrix_checks n c tree matrix []) h.passes q h')
-  all-characters-answer (answer.Refused q) (answer.Scores s) h h' = absurd (not_refused (matrix_checks n c tree matrix []) h'.passes q h)
-  all-characters-answer (answer.Refused q) (answer.Refused q') h h' =
-      ap answer.Refused (one-refusal (matrix_checks n c tree matrix []) (sure_matrix n c tree matrix []) q q' h h')
+  pub all-characters-answer : (r r' : Result Scores Refusal) → AllAnswers n c tree matrix r → AllAnswers n c tree matrix r' → r ≡ r'
+  all-characters-answer (Ok s) (Ok s') h h' = ap Ok (both_totals s s' h h')
+  all-characters-answer (Ok s) (Err q) h h' = absurd (not_refused (matrix_checks n c tree matrix []) h.passes q h')
+  all-characters-answer (Err q) (Ok s) h h' = absurd (not_refused (matrix_checks n c tree matrix []) h'.passes q h)
+  all-characters-answer (Err q) (Err q') h h' =
+      ap Err (one-refusal (matrix_checks n c tree matrix []) (sure_matrix n c tree matrix []) q q' h h')

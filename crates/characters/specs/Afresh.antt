@@ -1,16 +1,15 @@
--- What one character afresh answers, and what all characters afresh do: for each case of the enum, and for each lent slice.
+-- What one character afresh answers, and what all characters afresh do: the scores or a refusal, and for each lent slice.
 -- Assumes nothing.
-use Rattle.std.specs.Prelude.{◌≡◌, List, [], ◌∷◌, ℕ, length}
+use Rattle.std.specs.Prelude.{◌≡◌, List, [], ◌∷◌, ℕ, length, Result, Ok, Err}
 use Rattle.parsimony.specs.Table.{Accepted}
 use Rattle.parsimony.specs.Matrix.{state_of}
+use Rattle.refusals.specs.declared.Refusal.{Refusal}
 use Rattle.refusals.specs.Checks.{Refuses, Passes, Slice}
 use Rattle.choices.specs.declared.Resolve.{Resolve}
 use Rattle.limits.specs.Limits.{node_slice}
 use Rattle.checks.specs.Calls.{character_checks, matrix_checks}
 use Rattle.scores.specs.declared.Scores.{Scores}
 use Rattle.scores.specs.Scores.{TreeScores, Results, CharacterMeans}
-use Rattle.characters.specs.declared.Answer.{Answer}
-use Rattle.characters.specs.declared.Answer.TheVariants as answer
 
 -- ---- one character afresh
 
@@ -33,9 +32,9 @@ pub record OneScored (n c j : ℕ) (resolve : Resolve) (tree matrix : List ℕ) 
   pub means : CharacterMeans n (state_of matrix c j) tree ρ resolve after s
 
 -- The answer: the scores, and the results in their slices; or a refusal, by the first check that applies, and nothing is changed.
-abbrev pub OneAnswers : (n c j : ℕ) → Resolve → (tree matrix : List ℕ) (before after : Results) → Answer → Type 0
-OneAnswers n c j resolve tree matrix before after (answer.Scores s) = OneScored n c j resolve tree matrix before after s
-OneAnswers n c j resolve tree matrix before after (answer.Refused q) =
+abbrev pub OneAnswers : (n c j : ℕ) → Resolve → (tree matrix : List ℕ) (before after : Results) → Result Scores Refusal → Type 0
+OneAnswers n c j resolve tree matrix before after (Ok s) = OneScored n c j resolve tree matrix before after s
+OneAnswers n c j resolve tree matrix before after (Err q) =
     Refuses (character_checks n c j tree matrix (result_slices n before)) q × (after ≡ before)
 
 -- ---- all characters afresh
@@ -49,6 +48,6 @@ pub record AllScored (n c : ℕ) (tree matrix : List ℕ) (s : Scores) : Type 0 
   pub means : TreeScores n c matrix tree ρ s
 
 -- The answer: the scores; or a refusal, by the first check that applies. Both slices are lent to be read only.
-abbrev pub AllAnswers : (n c : ℕ) (tree matrix : List ℕ) → Answer → Type 0
-AllAnswers n c tree matrix (answer.Scores s) = AllScored n c tree matrix s
-AllAnswers n c tree matrix (answer.Refused q) = Refuses (matrix_checks n c tree matrix []) q
+abbrev pub AllAnswers : (n c : ℕ) (tree matrix : List ℕ) → Result Scores Refusal → Type 0
+AllAnswers n c tree matrix (Ok s) = AllScored n c tree matrix s
+AllAnswers n c tree matrix (Err q) = Refuses (matrix_checks n c tree matrix []) q

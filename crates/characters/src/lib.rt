@@ -5,22 +5,14 @@ ghost use Rattle.std.specs.Prelude.{◌≤◌};
 ghost use Rattle.characters.specs.Afresh.{six, OneAnswers, AllAnswers};
 ghost use Rattle.limits.specs.Limits.{Told};
 
-use checks::Admission;
 use choices::Resolve;
-use limits::Lent;
-use refusals::Refusal;
+use refusals::{Reason, Refusal};
 use scores::Scores;
-
-// The scores, or a refusal.
-#[derive(Clone, Copy)]
-pub enum Answer {
-    Scores(Scores),
-    Refused(Refusal),
-}
 
 // ---- one character
 
 // The six slices of results: which is the first that has not an entry for each interior node.
+// The six lengths stay parameters: the C functions of `editions` have them one by one, and a list of them would have to be built at each call.
 pub fn lend_results(
     n: usize,
     third: usize,
@@ -29,11 +21,11 @@ pub fn lend_results(
     sixth: usize,
     seventh: usize,
     eighth: usize,
-) -> Lent
+) -> Option<u32>
     requires { 3 ≤ n }
     ensures { Told 3 (six n third fourth fifth sixth seventh eighth) result }
 {
-    let from8 = limits::lend(8, eighth, n - 2, Lent::Exact);
+    let from8 = limits::lend(8, eighth, n - 2, None);
     let from7 = limits::lend(7, seventh, n - 2, from8);
     let from6 = limits::lend(6, sixth, n - 2, from7);
     let from5 = limits::lend(5, fifth, n - 2, from6);
@@ -43,6 +35,7 @@ pub fn lend_results(
 
 // One character afresh. The first-pass ranges and subtree lengths, the final ranges and the chosen states go into slices of n - 2 entries.
 // Refusals, in this order: 1, 2, 3 to 6, 8, and 7 in the character's cells. A refusal changes nothing.
+// The six slices stay parameters: `OneAnswers` speaks of each, and the C function lends them one by one.
 pub fn one_character(
     n: usize,
     c: usize,
@@ -56,7 +49,7 @@ pub fn one_character(
     final_lows: &mut [u16],
     final_highs: &mut [u16],
     states: &mut [u16],
-) -> Answer
+) -> Result<Scores, Refusal>
     ensures { OneAnswers n c character resolve tree.now matrix.now
         (record {
           first_lows = first_lows.old;
@@ -76,8 +69,8 @@ pub fn one_character(
         }) result }
 {
     if limits::outside(n, c) {
-        return Answer::Refused(Refusal {
-            number: 1,
+        return Err(Refusal {
+            reason: Reason::Limits,
             place: 0,
         });
     }
@@ -92,47 +85,39 @@ pub fn one_character(
     );
     let from2 = limits::lend(2, matrix.len(), n * c, results);
     let from1 = limits::lend(1, tree.len(), 2 * n - 2, from2);
-    let admission = checks::admit_character(n, c, character, tree, matrix, from1);
-    match admission {
-        Admission::Refused(refusal) => Answer::Refused(refusal),
-        Admission::Admitted(root, top) => Answer::Scores(character_scores::score_one(
-            n,
-            c,
-            character,
-            root,
-            top,
-            resolve,
-            tree,
-            matrix,
-            first_lows,
-            first_highs,
-            subtree,
-            final_lows,
-            final_highs,
-            states,
-        )),
-    }
+    let rooted = checks::admit_character(n, c, character, tree, matrix, from1)?;
+    Ok(character_scores::score_one(
+        n,
+        c,
+        character,
+        rooted.root,
+        rooted.top,
+        resolve,
+        tree,
+        matrix,
+        first_lows,
+        first_highs,
+        subtree,
+        final_lows,
+        final_highs,
+        states,
+    ))
 }
 
 // ---- all characters
 
 // All characters afresh: the length of the tree and its indices. Refusals, in this order: 1, 2, 3 to 6, and 7 in all cells.
-pub fn all_characters(n: usize, c: usize, tree: &[u16], matrix: &[u16]) -> Answer
+pub fn all_characters(n: usize, c: usize, tree: &[u16], matrix: &[u16]) -> Result<Scores, Refusal>
     ensures { AllAnswers n c tree.now matrix.now result }
 {
     if limits::outside(n, c) {
-        return Answer::Refused(Refusal {
-            number: 1,
+        return Err(Refusal {
+            reason: Reason::Limits,
             place: 0,
         });
     }
-    let from2 = limits::lend(2, matrix.len(), n * c, Lent::Exact);
+    let from2 = limits::lend(2, matrix.len(), n * c, None);
     let from1 = limits::lend(1, tree.len(), 2 * n - 2, from2);
-    let admission = checks::admit_matrix(n, c, tree, matrix, from1);
-    match admission {
-        Admission::Refused(refusal) => Answer::Refused(refusal),
-        Admission::Admitted(root, top) => Answer::Scores(scores::score_all(
-            n, c, root, top, tree, matrix,
-        )),
-    }
+    let rooted = checks::admit_matrix(n, c, tree, matrix, from1)?;
+    Ok(scores::score_all(n, c, rooted.root, rooted.top, tree, matrix))
 }

@@ -15,6 +15,7 @@ pub fn read_full<R: Read>(input: &mut R, text: &mut [u8]) -> io::Result<usize>
     ensures end { IfOk result (λ n. n < length text.new → IsAtEnd (R.remaining input.new)) }
 {
     let mut size = 0;
+    // no `for`: each turn goes on by as many bytes as its read gave
     while size < text.len() {
         let n = input.read(&mut text[size..])?;
         if n == 0 {

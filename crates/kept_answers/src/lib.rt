@@ -4,37 +4,26 @@
 ghost use Rattle.answers.specs.Coded.{Tells};
 ghost use Rattle.kept_answers.specs.Replies.{of_built, of_count, of_length};
 
-use answers::{code, longer};
-use corrections::Count;
-use histories::Built;
-use tallies::Length;
+use answers::code;
+use refusals::Refusal;
 
 // 0 if the table is built.
-pub fn give_built(built: Built) -> u64
+pub fn give_built(built: Result<(), Refusal>) -> u64
     ensures { Tells (of_built built) result }
 {
     match built {
-        Built::Done => 0,
-        Built::Refused(refusal) => code(refusal),
+        Ok(()) => 0,
+        Err(refusal) => code(refusal),
     }
 }
 
-// How many entries were rewritten.
-pub fn give_count(count: Count) -> u64
-    ensures { Tells (of_count count) result }
+// A number: how many entries were rewritten, or a length.
+pub fn give_number(answer: Result<u32, Refusal>) -> u64
+    ensures count { Tells (of_count answer) result }
+    ensures length { Tells (of_length answer) result }
 {
-    match count {
-        Count::Rewritten(nodes) => longer(nodes),
-        Count::Refused(refusal) => code(refusal),
-    }
-}
-
-// The length.
-pub fn give_length(length: Length) -> u64
-    ensures { Tells (of_length length) result }
-{
-    match length {
-        Length::Length(least) => longer(least),
-        Length::Refused(refusal) => code(refusal),
+    match answer {
+        Ok(number) => u64::from(number),
+        Err(refusal) => code(refusal),
     }
 }

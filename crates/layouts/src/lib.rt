@@ -1,7 +1,7 @@
 // The lines of a report for one character, written into a lent slice.
 #![tactic(auto)]
 
-ghost use Rattle.std.specs.Prelude.{◌+◌, ◌≤◌, length};
+ghost use Rattle.std.specs.Prelude.{[], ◌+◌, ◌≤◌, length};
 ghost use Rattle.layouts.specs.Report as text;
 ghost use Rattle.fields.specs.Fitting.{Fitting};
 ghost use Rattle.summaries.specs.Rooms.{Indexed};
@@ -10,13 +10,12 @@ ghost use Rattle.layouts.specs.Rooms.{Lists, node_room, character_room};
 use fields::put_count;
 use scores::Scores;
 
-// The first-pass ranges, the final ranges and the chosen states. Subtree lengths are not printed; they are lent so that the contract can name all results.
+// The first-pass ranges, the final ranges and the chosen states. Subtree lengths are not printed: the contract has none in their place.
 fn put_nodes(
     out: &mut [u8],
     at: usize,
     first_lows: &[u16],
     first_highs: &[u16],
-    subtree: &[u32],
     final_lows: &[u16],
     final_highs: &[u16],
     states: &[u16],
@@ -27,7 +26,7 @@ fn put_nodes(
         (text.node_lines (record {
           first_lows = first_lows.now;
           first_highs = first_highs.now;
-          subtree = subtree.now;
+          subtree = [];
           final_lows = final_lows.now;
           final_highs = final_highs.now;
           states = states.now;
@@ -38,7 +37,7 @@ fn put_nodes(
     listings::put_list(out, third, b"states=", states)
 }
 
-// The seven lines for a character.
+// The seven lines for a character. Nothing of them depends on the subtree lengths, so here too the contract has none.
 pub fn put_character(
     out: &mut [u8],
     at: usize,
@@ -46,7 +45,6 @@ pub fn put_character(
     scores: Scores,
     first_lows: &[u16],
     first_highs: &[u16],
-    subtree: &[u32],
     final_lows: &[u16],
     final_highs: &[u16],
     states: &[u16],
@@ -57,20 +55,19 @@ pub fn put_character(
         (text.character_lines character scores (record {
           first_lows = first_lows.now;
           first_highs = first_highs.now;
-          subtree = subtree.now;
+          subtree = [];
           final_lows = final_lows.now;
           final_highs = final_highs.now;
           states = states.now;
         })) (character_room (length first_lows.now)) }
 {
-    let second = put_count(out, at, b"character=", character as u32);
+    let second = put_count(out, at, b"character=", u32::from(character));
     let third = put_count(out, second, b"length=", scores.length);
     let sixth = put_nodes(
         out,
         third,
         first_lows,
         first_highs,
-        subtree,
         final_lows,
         final_highs,
         states,

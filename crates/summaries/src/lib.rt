@@ -2,6 +2,7 @@
 #![tactic(auto)]
 
 ghost use Rattle.std.specs.Prelude.{◌+◌, ◌≤◌, length};
+ghost use Rattle.refusals.specs.Reasons.{number};
 ghost use Rattle.forms.specs.Sheets.{resolve_line};
 ghost use Rattle.summaries.specs.Report as text;
 ghost use Rattle.fields.specs.Fitting.{Fitting};
@@ -10,6 +11,7 @@ ghost use Rattle.summaries.specs.Rooms.{Indexed, index_room, tree_room, refused_
 use choices::Resolve;
 use fields::{put_byte, put_count, put_index};
 use printing::{put_bytes, put_number};
+use refusals::Refusal;
 use scores::Scores;
 
 // The resolve line.
@@ -28,10 +30,8 @@ pub fn put_indices(out: &mut [u8], at: usize, scores: Scores) -> usize
     requires { Indexed scores × (at + index_room ≤ length out.old) }
     ensures { Fitting out.old out.new at result (text.index_lines scores) index_room }
 {
-    let ci = scores.ci;
-    let ri = scores.ri;
-    let next = put_index(out, at, b"ci=", ci);
-    put_index(out, next, b"ri=", ri)
+    let next = put_index(out, at, b"ci=", scores.ci);
+    put_index(out, next, b"ri=", scores.ri)
 }
 
 // The six lines for the tree.
@@ -46,21 +46,23 @@ pub fn put_tree(
     requires { Indexed scores × (at + tree_room ≤ length out.old) }
     ensures { Fitting out.old out.new at result (text.tree_lines n c scores resolve) tree_room }
 {
-    let second = put_count(out, at, b"taxa=", n as u32);
-    let third = put_count(out, second, b"characters=", c as u32);
+    let second = put_count(out, at, b"taxa=", u32::from(n));
+    let third = put_count(out, second, b"characters=", u32::from(c));
     let fourth = put_count(out, third, b"length=", scores.length);
     let sixth = put_indices(out, fourth, scores);
     put_resolve(out, sixth, resolve)
 }
 
 // The line of a refusal.
-pub fn put_refusal(out: &mut [u8], at: usize, number: u32, place: u32) -> usize
+pub fn put_refusal(out: &mut [u8], at: usize, refusal: Refusal) -> usize
     requires { at + refused_room ≤ length out.old }
-    ensures { Fitting out.old out.new at result (text.refused_line number place) refused_room }
+    ensures { Fitting out.old out.new at result
+        (text.refused_line (number refusal) refusal.place) refused_room }
 {
+    let number = u32::from(refusal.reason);
     let first = put_bytes(out, at, b"refused=");
     let comma = put_number(out, first, number);
-    let second = put_byte(out, comma, 44);
-    let end = put_number(out, second, place);
-    put_byte(out, end, 10)
+    let second = put_byte(out, comma, b',');
+    let end = put_number(out, second, refusal.place);
+    put_byte(out, end, b'\n')
 }

@@ -7,14 +7,14 @@ use Rattle.indices.proofs.Most.{m-most}
 use Rattle.character_scores.proofs.Meaning.{wider, descends, turns, begun, means}
 use Rattle.character_scores.proofs.score_one.Goals as goal
 
-pub descendants-requires : goal.descendants-requires
-descendants-requires c = ready _ _ _ _ c.requires.sized c.requires.accepted
+pub descendants-shape-requires : goal.descendants-shape-requires
+descendants-shape-requires c = ready c.requires.sized c.requires.accepted
 
 pub reconstruct-requires : goal.reconstruct-requires
 reconstruct-requires c =
-    let G = wider c.requires c.wide-root.ensures c.wide-top.ensures in
-    let O = turns c.requires c.descendants.ensures c.wide-top.ensures c.order.ensures in
-    let B = begun G c.descendants.ensures c.begin-length.ensures in
+    let G = wider c.requires c.from-root.ensures c.from-top.ensures in
+    let O = turns c.requires c.descendants-shape.ensures c.from-top.ensures c.order-order.ensures in
+    let B = begun G c.descendants-shape.ensures c.begin-length.ensures in
     let F = c.final_ranges.ensures in (
       descends G O B.low_long B.high_long B.fits,
       descends G O F.low_long F.high_long F.fits,
@@ -24,11 +24,11 @@ reconstruct-requires c =
 pub score-requires : goal.score-requires
 score-requires c =
     let state = state_of c.args.matrix.now c.args.c c.args.character in
-    omega (arith, c.long-m.ensures, c.m.ensures, c.g-g.ensures, m-most c.args.n state c.wide-root.result)
+    omega (arith, c.from-m.ensures, c.m.ensures, c.g-g.ensures, m-most c.args.n state c.from-root.result)
 
 pub returns : goal.returns
 returns c =
-    let G = wider c.requires c.wide-root.ensures c.wide-top.ensures in
-    let B = begun G c.descendants.ensures c.begin-length.ensures in
-    rw (sym c.wide-root.ensures)
-    (means G _ B c.final_ranges.ensures c.reconstruct.ensures (c.long-m.ensures ∙ c.m.ensures) c.g-g.ensures c.score.ensures)
+    let G = wider c.requires c.from-root.ensures c.from-top.ensures in
+    let B = begun G c.descendants-shape.ensures c.begin-length.ensures in
+    rw (sym c.from-root.ensures)
+    (means G _ B c.final_ranges.ensures c.reconstruct.ensures (c.from-m.ensures ∙ c.m.ensures) c.g-g.ensures c.score.ensures)

@@ -8,8 +8,8 @@ use Rattle.layouts.proofs.put_character.Goals as goal
 
 pub returns : goal.returns
 returns c =
-    looser _ _ _ _ _ _ (character_room (length c.args.first_lows.now))
+    rw (← c.from.ensures) (looser _ _ _ _ _ _ (character_room (length c.args.first_lows.now))
     (fitting-both _ _ _ _ _ _ _ _ _ _ c.put_count-second.ensures
     (fitting-both _ _ _ _ _ _ _ _ _ _ c.put_count-third.ensures
     (fitting-both _ _ _ _ _ _ _ _ _ _ c.put_nodes-sixth.ensures c.put_indices.ensures)))
-    (omega arith)
+    (omega arith))

@@ -5,7 +5,7 @@ use Rattle.summaries.proofs.put_tree.Goals as goal
 
 pub returns : goal.returns
 returns c =
-    fitting-both _ _ _ _ _ _ _ _ _ _ c.put_count-second.ensures
-    (fitting-both _ _ _ _ _ _ _ _ _ _ c.put_count-third.ensures
+    fitting-both _ _ _ _ _ _ _ _ _ _ (rw c.from.ensures at c.put_count-second.ensures)
+    (fitting-both _ _ _ _ _ _ _ _ _ _ (rw c.from-2.ensures at c.put_count-third.ensures)
     (fitting-both _ _ _ _ _ _ _ _ _ _ c.put_count-fourth.ensures
     (fitting-both _ _ _ _ _ _ _ _ _ _ c.put_indices-sixth.ensures c.put_resolve.ensures)))
