@@ -90,6 +90,6 @@ module _ (n c j : ℕ) (tree matrix : List ℕ) (T : Table) (lows highs : List �
         → ReadsOr n c j ρ δ tree matrix (take q (drop start T.lows)) (take q (drop start T.highs)) (take q (drop start T.lengths))
         lows highs lows' highs' r → AnswersKept n c j tree matrix T lows highs lows' highs' r
     answers q e lows' highs' r =
-        subst (λ w. ReadsOr n c j ρ δ tree matrix (take w (drop start T.lows)) (take w (drop start T.highs)) (take w (drop start T.lengths))
+        subst (λ x. ReadsOr n c j ρ δ tree matrix (take x (drop start T.lows)) (take x (drop start T.highs)) (take x (drop start T.lengths))
         lows highs lows' highs' r → AnswersKept n c j tree matrix T lows highs lows' highs' r)
         (sym e) (answers-here lows' highs' r)

@@ -1,7 +1,7 @@
 -- `build` makes the checks, and then fills the table.
 use mathlib.Core.Path.{refl}
+use Rattle.std.specs.Prelude.{None}
 use Rattle.std.proofs.lemmas.Result.{err_from_is_err_and}
-use Rattle.scores.proofs.Summing.{wider}
 use Rattle.characters.proofs.Calling.{given-all}
 use Rattle.histories.specs.Kept.{Table, table_slices}
 use Rattle.kept.proofs.Calling.{long-all, passes-all}
@@ -21,8 +21,8 @@ pub fill_table-requires : goal.fill_table-requires
 fill_table-requires c =
     let T = table (goal.at.fill_table-requires c).Start in
     let A = c.in_ok-rooted.ensures in (
-      wider _ _ _ _ _ _ c.args.tree.now c.args.matrix.now c.from-root.ensures c.from-top.ensures
-          (given-all _ _ c.args.tree.now c.args.matrix.now (table_slices c.args.n c.args.c T) A.0 _ A.1 _ A.2),
+      rw (c.from-root.ensures, c.from-top.ensures)
+          (given-all _ _ c.args.tree.now c.args.matrix.now (table_slices c.args.n c.args.c T) A.0 None A.1 _ A.2),
       long-all _ _ c.args.tree.now c.args.matrix.now T _ A,
     )
 
