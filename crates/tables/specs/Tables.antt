@@ -1,16 +1,13 @@
 -- The kept table: three lists with an entry for each character and each interior node. Character 1 comes first; the entries of one character, its
 -- stretch, are adjacent, the node n + 1 first. So a stretch is three lists of one character, and means what they mean.
 -- Assumes nothing.
-use Rattle.std.specs.Prelude.{◌≡◌, List, ◌++◌, ℕ, ◌+◌, ◌-◌, ◌*◌, ◌≤◌, ◌<◌, length, take, drop}
+use Rattle.std.specs.Prelude.{◌≡◌, List, ◌++◌, ℕ, ◌-◌, ◌*◌, ◌≤◌, ◌<◌, length, take, drop}
 use Rattle.parsimony.specs.Steps.{FirstPass}
 use Rattle.parsimony.specs.Ordered.{ordered}
 use Rattle.parsimony.specs.Matrix.{state_of}
 use Rattle.parsimony.specs.Character.{at_node, cells, ranges, sizes, FirstMeans}
 use Rattle.shapes.specs.Filling.{Orders}
-use Rattle.rows.specs.Rows.{Room}
-use Rattle.passes.specs.Passes.{PassedIn}
 use Rattle.entry_lists.specs.EntryLists.{Taken}
-use Rattle.extents.specs.Extents.{Cells}
 
 -- the stretch of the character j, where each has w entries
 abbrev pub stretch : (w : ℕ) → List ℕ → ℕ → List ℕ
@@ -50,21 +47,3 @@ pub record TakenAll (n w i : ℕ) (block-lows block-highs block-lengths lows hig
   pub low_ends : Taken n w i block-lows lows
   pub high_ends : Taken n w i block-highs highs
   pub below : Taken n w i block-lengths lengths
-
--- the block after the first k characters has w of them and is settled, and the table has room
-pub record Takes (n c ρ δ : ℕ) (left right matrix : List ℕ) (k w : ℕ) (block-lows block-highs block-lengths lows highs lengths : List ℕ) : Type 0
-  where
-    pub taxa : (3 ≤ n) × (n ≤ 256)
-    pub few : w ≤ 8
-    pub within : k + w ≤ c
-    pub most : c ≤ 512
-    pub block : (tree : List ℕ) → Orders n δ tree ρ left right → PassedIn n c k w tree matrix block-lows block-highs block-lengths
-    pub built : BuiltTo n c ρ δ left right matrix k lows highs lengths
-
--- an accepted table of this shape, and room for a block and the table
-pub record Builds (n c ρ δ : ℕ) (left right matrix block-lows block-highs block-lengths lows highs lengths : List ℕ) : Type 0 where
-  pub tree : List ℕ
-  pub orders : Orders n δ tree ρ left right
-  pub cells : Cells n c matrix
-  pub room : Room block-lows block-highs block-lengths
-  pub long : TableLong n c lows highs lengths
