@@ -32,7 +32,15 @@ fn put_scores(scores: Scores, res: &mut [u32])
 {
     let ci = ends(scores.ci);
     let ri = ends(scores.ri);
-    res.copy_from_slice(&[scores.length, scores.m, scores.g, ci.over, ci.under, ri.over, ri.under]);
+    res.copy_from_slice(&[
+        scores.length,
+        scores.m,
+        scores.g,
+        ci.over,
+        ci.under,
+        ri.over,
+        ri.under,
+    ]);
 }
 
 // An answer as one number, with its scores in the slice.

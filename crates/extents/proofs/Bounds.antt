@@ -11,13 +11,9 @@ use Rattle.parsimony.specs.Index as index
 use Rattle.parsimony.proofs.Sums.{sum-most}
 use Rattle.parsimony.proofs.Spread.{m_is}
 use Rattle.parsimony.proofs.Ranges.Distances.{distance_is}
-use Rattle.indices.specs.Indices.{Readable}
 use Rattle.extents.specs.Extents.{Cells}
 
 module _ (n c : ℕ) (matrix : List ℕ) (C : Cells n c matrix) where
-  pub readable : (j : ℕ) → 1 ≤ j → j ≤ c → Readable n c j matrix
-  readable j p q = record { least = C.least; most = C.most; some = p; within = q; cells = C.rows }
-
   -- m is a difference of two states
   pub m-small : (j : ℕ) → 1 ≤ j → j ≤ c → index.m n (state_of matrix c j) ≤ 9999
   m-small j p q =

@@ -14,9 +14,7 @@ use Rattle.parsimony.specs.Ordered.{span, point}
 use Rattle.parsimony.specs.Matrix.{state_of}
 use Rattle.parsimony.specs.Character.{at_node, ranges}
 use Rattle.parsimony.proofs.Sums.{often, same_self, same-apart, same_equal, without_middle}
-use Rattle.cells.specs.Above.{InMatrix}
-use Rattle.cells.proofs.Reading.{in_matrix}
-use Rattle.parsimony.proofs.Characters.{span-point, range-taxon, range-inner}
+use Rattle.parsimony.proofs.Characters.{span-point, range-taxon}
 use Rattle.parsimony.proofs.Tables.Descendants.{often-descendants}
 use Rattle.parsimony.proofs.Tables.Trees.{Tree}
 use Rattle.ranges.specs.declared.Range.{Range}
@@ -34,24 +32,12 @@ module _ (n c j v : ℕ) (matrix lows highs : List ℕ) where
         range = ap (λ x. span x x) e ∙ span-point (state_of matrix c j v) ∙ sym (range-taxon n (state_of matrix c j) lows highs v l);
       }
 
-  pub at_inner : Readable n c j v matrix lows highs → n < v
-      → IsAt n c j v matrix lows highs (record { low = get_or lows (v - n - 1) 0; high = get_or highs (v - n - 1) 0 })
-  at_inner R h =
-      let place : v - n - 1 ≡ v - suc n = omega arith in
-      record {
-        fits = omega (arith, R.fits h, ap (λ k. get_or lows k 0) place, ap (λ k. get_or highs k 0) place);
-        range = ap (λ k. span (get_or lows k 0) (get_or highs k 0)) place ∙ sym (range-inner n (state_of matrix c j) lows highs v h);
-      }
-
 -- ---- the final range of a node
 
 -- a descendant, by its place in one of the two lists
 module _ (n c j v : ℕ) (matrix side lows highs : List ℕ) (inner : n < v) where
   slot : (u : ℕ) → u ≡ get_or side (v - n - 1) 0 → u ≡ at_node n side v
   slot u e = e ∙ ap (λ k. get_or side k 0) (omega arith)
-
-  pub slot_readable : Readable n c j (at_node n side v) matrix lows highs → (u : ℕ) → u ≡ get_or side (v - n - 1) 0 → Readable n c j u matrix lows highs
-  slot_readable R u e = subst (λ k. Readable n c j k matrix lows highs) (sym (slot u e)) R
 
 pub finished : (n c j v : ℕ) (r : Range) (matrix left right lows highs lows₀ highs₀ : List ℕ) → n < v
     → (a b : ℕ) → a ≡ get_or left (v - n - 1) 0 → b ≡ get_or right (v - n - 1) 0
@@ -85,9 +71,6 @@ module _ {n c j ρ δ v : ℕ} {tree matrix left right lows highs : List ℕ} {a
   p = ancestor tree v
 
   -- the root's descendant sees the root's state
-  pub root_in : InMatrix c j ρ matrix
-  root_in = in_matrix n c j ρ matrix S.some S.most S.rows S.accepted.is_tree.some S.accepted.is_tree.taxon
-
   pub sees_root : v ≡ δ → (s : ℕ) → s ≡ state_of matrix c j ρ
       → Seen n c j ρ δ v tree matrix lows highs above (record { low = s; high = s })
   sees_root e s q =
@@ -110,9 +93,6 @@ module _ {n c j ρ δ v : ℕ} {tree matrix left right lows highs : List ℕ} {a
 
     pub up_inner : n < q
     up_inner = omega (arith, inner_up)
-
-    pub up_place : q - n - 1 < 254
-    up_place = omega (arith, last_up, inner_up, S.sized.nodes, S.sized.most)
 
     module _ (a b : ℕ) (ea : a ≡ get_or left (q - n - 1) 0) (eb : b ≡ get_or right (q - n - 1) 0) where
       fork : descendants tree p ≡ a ∷ b ∷ []

@@ -13,9 +13,8 @@ use Rattle.parsimony.specs.Matrix.{state_of}
 use Rattle.parsimony.specs.Character.{at_node, ranges, way_of}
 use Rattle.parsimony.proofs.Characters.{nearest-point, entry-written, entry_other, range-inner, way-taxon, way-inner, way-other}
 use Rattle.parsimony.proofs.Tables.Trees.{Tree}
-use Rattle.shapes.proofs.Subtrees as subtrees
 use Rattle.descents.specs.Descents.{Descends}
-use Rattle.reconstructions.specs.Reconstructions.{Choosing, ChosenAt, Chooses}
+use Rattle.reconstructions.specs.Reconstructions.{ChosenAt, Chooses}
 use Rattle.descents.proofs.Passing as passing
 
 module _ (n c j : ℕ) (tree matrix order lows highs : List ℕ) where
@@ -63,19 +62,6 @@ module _ {n c j ρ δ : ℕ} {tree matrix order lows highs : List ℕ} (D : Desc
     abbrev T : Tree
     T = record { n = n; tree = tree; ρ = ρ; δ = δ; is_tree = D.accepted.is_tree }
 
-    choosing : Choosing n c j v tree matrix states
-    choosing =
-        record {
-          some = D.some;
-          most = D.most;
-          rows = D.rows;
-          node = omega (arith, lo);
-          last = hi;
-          long = P.long;
-          ancestor_some = subtrees.ancestor_some T v lo hi;
-          ancestor_last = omega (arith, subtrees.ancestor_in T v, D.sized.nodes);
-        }
-
     range-fits : get_or lows (v - n - 1) 0 ≤ get_or highs (v - n - 1) 0
     range-fits =
         let place : v - n - 1 ≡ v - suc n = omega arith in
@@ -112,9 +98,6 @@ module _ {n c j ρ δ : ℕ} {tree matrix order lows highs : List ℕ} (D : Desc
 
     -- the same of a node that is known to be the one whose turn it is
     module _ {u : ℕ} (e : u ≡ v) where
-      pub choosing_at : Choosing n c j u tree matrix states
-      choosing_at = subst (λ w. Choosing n c j w tree matrix states) (sym e) choosing
-
       pub range-fits-at : get_or lows (u - n - 1) 0 ≤ get_or highs (u - n - 1) 0
       range-fits-at = subst (λ w. get_or lows (w - n - 1) 0 ≤ get_or highs (w - n - 1) 0) (sym e) range-fits
 

@@ -1,3 +1,3 @@
--- How the three numbers come into their slice, and what they say.
+-- What the three numbers say.
 -- Assumes nothing.
 pub mod Threes

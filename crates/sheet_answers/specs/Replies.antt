@@ -1,21 +1,19 @@
 -- What the calls about sheets reply: 0 for a sheet that is read, the number of bytes of a report; or a refusal. And the slice of three numbers.
 -- Assumes nothing.
-use Rattle.std.specs.Prelude.{◌≡◌, List, [], ◌∷◌, ℕ, ◌≤◌}
+use Rattle.std.specs.Prelude.{◌≡◌, List, [], ◌∷◌, ℕ, ◌≤◌, Result, Ok, Err}
+use Rattle.refusals.specs.declared.Refusal.{Refusal}
 use Rattle.refusals.specs.Checks.{Slice}
 use Rattle.choices.specs.declared.Resolve.{Resolve}
 use Rattle.choices.specs.declared.Resolve.TheVariants.{Acctran, Deltran}
-use Rattle.bodies.specs.declared.SheetAnswer.{SheetAnswer}
-use Rattle.bodies.specs.declared.SheetAnswer.TheVariants as sheet
-use Rattle.reports.specs.declared.ReportAnswer.{ReportAnswer}
-use Rattle.reports.specs.declared.ReportAnswer.TheVariants as report
-use Rattle.answers.specs.Coded.{Reply, number, refused, Tells}
+use Rattle.bodies.specs.declared.Head.{Head}
+use Rattle.answers.specs.Coded.{Reply, Tells}
 
 -- ---- reading a sheet
 
 -- 0 for a sheet that is read
-abbrev pub of_sheet : SheetAnswer → Reply
-of_sheet (sheet.Read n c r) = number 0
-of_sheet (sheet.Refused q) = refused q
+abbrev pub of_sheet : Result Head Refusal → Reply
+of_sheet (Ok h) = Ok 0
+of_sheet (Err q) = Err q
 
 -- the choice as a number, which `resolve_of` takes back
 abbrev pub number_of : Resolve → ℕ
@@ -27,12 +25,12 @@ abbrev pub three : (n c : ℕ) → Resolve → List ℕ
 three n c r = n ∷ c ∷ number_of r ∷ []
 
 -- what the result slice holds then: the three numbers, or what it held before
-abbrev pub three_after : SheetAnswer → List ℕ → List ℕ
-three_after (sheet.Read n c r) before = three n c r
-three_after (sheet.Refused q) before = before
+abbrev pub three_after : Result Head Refusal → List ℕ → List ℕ
+three_after (Ok h) before = three h.n h.c h.resolve
+three_after (Err q) before = before
 
 -- a caller is given this answer
-pub record GivesSheet (a : SheetAnswer) (before after : List ℕ) (r : ℕ) : Type 0 where
+pub record GivesSheet (a : Result Head Refusal) (before after : List ℕ) (r : ℕ) : Type 0 where
   pub told : Tells (of_sheet a) r
   pub results : after ≡ three_after a before
 
@@ -43,11 +41,11 @@ sheet_slices tree matrix result = record { has = tree; asked = 510 } ∷ record 
 -- ---- the report of a sheet
 
 -- the number of bytes of a report
-abbrev pub of_report : ReportAnswer → Reply
-of_report (report.Written size) = number size
-of_report (report.Refused q) = refused q
+abbrev pub of_report : Result ℕ Refusal → Reply
+of_report (Ok size) = Ok size
+of_report (Err q) = Err q
 
 -- a report has at most as many bytes as its slice
-abbrev pub Short : ReportAnswer → Type 0
-Short (report.Written size) = size ≤ 524288
-Short (report.Refused q) = Unit {0}
+abbrev pub Short : Result ℕ Refusal → Type 0
+Short (Ok size) = size ≤ 524288
+Short (Err q) = Unit {0}

@@ -7,14 +7,14 @@ ghost use Rattle.answers.specs.Coded.{Tells};
 ghost use Rattle.sheet_answers.specs.Replies.{number_of, three, GivesSheet, of_report, Short, sheet_slices};
 
 use answers::code;
-use bodies::SheetAnswer;
+use bodies::Head;
 use choices::Resolve;
-use refusals::Refusal;
-use reports::ReportAnswer;
+use refusals::{Reason, Refusal};
 
 // ---- reading a sheet
 
 // The choice: ACCTRAN is 0, DELTRAN 1.
+// No `From`: the type is of the crate `choices`, and this number is C's alone.
 fn number_of(resolve: Resolve) -> u32
     ensures { result ≡ number_of resolve }
 {
@@ -25,27 +25,28 @@ fn number_of(resolve: Resolve) -> u32
 }
 
 // The three numbers into a slice of three entries.
-fn put_three(n: u16, c: u16, resolve: Resolve, res: &mut [u32])
+fn put_three(head: Head, res: &mut [u32])
     requires { length res.old ≡ 3 }
-    ensures { res.new ≡ three n c resolve }
+    ensures { res.new ≡ three head.n head.c head.resolve }
 {
-    let choice = number_of(resolve);
-    res[0] = n as u32;
-    res[1] = c as u32;
-    res[2] = choice;
+    res.copy_from_slice(&[
+        u32::from(head.n),
+        u32::from(head.c),
+        number_of(head.resolve),
+    ]);
 }
 
 // 0 if the sheet is read, with its three numbers in the slice.
-pub fn give_sheet(answer: SheetAnswer, res: &mut [u32]) -> u64
+pub fn give_sheet(answer: Result<Head, Refusal>, res: &mut [u32]) -> u64
     requires { length res.old ≡ 3 }
     ensures { GivesSheet answer res.old res.new result }
 {
     match answer {
-        SheetAnswer::Read(n, c, resolve) => {
-            put_three(n, c, resolve, res);
+        Ok(head) => {
+            put_three(head, res);
             0
         }
-        SheetAnswer::Refused(refusal) => code(refusal),
+        Err(refusal) => code(refusal),
     }
 }
 
@@ -54,33 +55,28 @@ pub fn refuse_sheet(tree: usize, matrix: usize, res: usize) -> Refusal
     requires { res ≢ 3 }
     ensures { Refuses (slices 1 (sheet_slices tree matrix res)) result }
 {
-    if tree != 510 {
-        return Refusal {
-            number: 2,
-            place: 1,
-        };
-    }
-    if matrix != 16384 {
-        return Refusal {
-            number: 2,
-            place: 2,
-        };
-    }
+    let place = if tree != 510 {
+        1
+    } else if matrix != 16384 {
+        2
+    } else {
+        3
+    };
     Refusal {
-        number: 2,
-        place: 3,
+        reason: Reason::Length,
+        place,
     }
 }
 
 // ---- the report of a sheet
 
 // The number of bytes.
-pub fn give_report(answer: ReportAnswer) -> u64
+pub fn give_report(answer: Result<usize, Refusal>) -> u64
     requires { Short answer }
     ensures { Tells (of_report answer) result }
 {
     match answer {
-        ReportAnswer::Written(size) => size as u64,
-        ReportAnswer::Refused(refusal) => code(refusal),
+        Ok(size) => size as u64,
+        Err(refusal) => code(refusal),
     }
 }
