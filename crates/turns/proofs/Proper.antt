@@ -10,8 +10,8 @@ use Rattle.parsimony.specs.Table.{IsTree}
 use Rattle.parsimony.specs.Matrix.{state_of}
 use Rattle.parsimony.specs.Index as index
 use Rattle.parsimony.proofs.Extent.{m_shortest, sum_below}
-use Rattle.indices.specs.declared.Index.{Index}
-use Rattle.indices.specs.declared.Index.TheVariants.{Fraction, None}
+use Rattle.std.specs.Prelude.{Option, Some, None}
+use Rattle.indices.specs.declared.Fraction.{Fraction}
 use Rattle.indices.specs.Indices.{index_of}
 use Rattle.scores.specs.declared.Scores.{Scores}
 use Rattle.scores.specs.Scores.{HasIndices, CharacterScores, TreeScores}
@@ -31,22 +31,22 @@ under_same a b p q e = cc
 at_most : (a b p q : ℕ) → index.fraction a b ≡ index.fraction p q → p ≤ q → 1 ≤ q → AtMost a b
 at_most a b p q e h g = record { most = omega (arith, over-same a b p q e, under_same a b p q e); some = omega (arith, under_same a b p q e) }
 
-proper_ci : (i : Index) (m s : ℕ) → m ≤ s → index_of i ≡ index.ci m s → Proper i
+proper_ci : (i : Option Fraction) (m s : ℕ) → m ≤ s → index_of i ≡ index.ci m s → Proper i
 proper_ci None m s h e = tt
-proper_ci (Fraction a b) m s h e = go (ℕ_discrete s 0)
+proper_ci (Some f) m s h e = go (ℕ_discrete s 0)
   where
-    go : Dec (s ≡ 0) → AtMost a b
-    go (yes z) = absurd (no_fraction a b (rw (eq-eqb s 0 z) at e))
-    go (no z) = at_most a b m s (rw (ne_eqb s 0 z) at e) h (omega arith)
+    go : Dec (s ≡ 0) → AtMost f.over f.under
+    go (yes z) = absurd (no_fraction f.over f.under (rw (eq-eqb s 0 z) at e))
+    go (no z) = at_most f.over f.under m s (rw (ne_eqb s 0 z) at e) h (omega arith)
 
-proper_ri : (i : Index) (m s g : ℕ) → m ≤ s → index_of i ≡ index.ri m s g → Proper i
+proper_ri : (i : Option Fraction) (m s g : ℕ) → m ≤ s → index_of i ≡ index.ri m s g → Proper i
 proper_ri None m s g h e = tt
-proper_ri (Fraction a b) m s g h e = go (ℕ_discrete g m) (dec_le s g)
+proper_ri (Some f) m s g h e = go (ℕ_discrete g m) (dec_le s g)
   where
-    go : Dec (g ≡ m) → Dec (s ≤ g) → AtMost a b
-    go (yes z) d = absurd (no_fraction a b (rw (eq-eqb g m z) at e))
-    go (no z) (no l) = absurd (no_fraction a b (rw (ne_eqb g m z, lt-ltb g s (omega arith)) at e))
-    go (no z) (yes l) = at_most a b (g - s) (g - m) (rw (ne_eqb g m z, le-ltb g s l) at e) (omega arith) (omega arith)
+    go : Dec (g ≡ m) → Dec (s ≤ g) → AtMost f.over f.under
+    go (yes z) d = absurd (no_fraction f.over f.under (rw (eq-eqb g m z) at e))
+    go (no z) (no l) = absurd (no_fraction f.over f.under (rw (ne_eqb g m z, lt-ltb g s (omega arith)) at e))
+    go (no z) (yes l) = at_most f.over f.under (g - s) (g - m) (rw (ne_eqb g m z, le-ltb g s l) at e) (omega arith) (omega arith)
 
 indexed : (s : Scores) → s.m ≤ s.length → HasIndices s → Indexed s
 indexed s h I =

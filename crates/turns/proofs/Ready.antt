@@ -6,6 +6,7 @@ use Prim.Native.Nat.{ℕ, zero, suc, ◌+◌, ◌-◌, ◌*◌, ◌≤◌}
 use native.Mathlib.Numerals.{add-one}
 use native.Mathlib.Omega.{arith}
 use lib.ListN.{length}
+use Rattle.std.specs.Prelude.{None, Result, Ok, Err, IsOk}
 use Rattle.parsimony.specs.Table.{Accepted}
 use Rattle.parsimony.specs.Matrix.{state_of}
 use Rattle.parsimony.proofs.Matrices.{cell_in}
@@ -16,13 +17,11 @@ use Rattle.refusals.proofs.Laws.{never_none, never_more, lowest-here}
 use Rattle.refusals.proofs.Order.{not_refused, clear_slice}
 use Rattle.cells.specs.Above.{AboveAt, AboveIn}
 use Rattle.choices.specs.declared.Resolve.{Resolve}
-use Rattle.limits.specs.declared.Lent.TheVariants.{Exact}
 use Rattle.limits.proofs.Lending.{in_limits, exact-clear}
 use Rattle.checks.specs.Calls.{character_checks}
 use Rattle.checks.proofs.Orders.{character-passes}
 use Rattle.scores.specs.declared.Scores.{Scores}
 use Rattle.scores.specs.Scores.{Results, AllLong, CharacterMeans}
-use Rattle.characters.specs.declared.Answer.TheVariants as answer
 use Rattle.characters.specs.Afresh.{result_slices, OneScored, OneAnswers, AllScored}
 use Rattle.turns.specs.Lines.{Ready}
 
@@ -54,7 +53,7 @@ module _ (n c : ℕ) (tree matrix : List ℕ) (R : Ready n c tree matrix) (j : �
   -- no check of one character's call applies
   passes-one : (before : Results) → AllLong n before → Passes (character_checks n c j tree matrix (result_slices n before))
   passes-one before L =
-      character-passes n c tree matrix (result_slices n before) R.limits Exact (
+      character-passes n c tree matrix (result_slices n before) R.limits None (
         clear_slice 1 (length tree) (2 * n - 2) R.nodes,
         (
           clear_slice 2 (length matrix) (n * c) R.cells,
@@ -83,8 +82,14 @@ module _ (n c : ℕ) (tree matrix : List ℕ) (R : Ready n c tree matrix) (j : �
           R.small ((t - 1) * c + j) (omega arith) (omega (arith, cell_in n c (t - 1) (j - 1) (omega arith) (omega arith))) h
 
   pub never_refused : (resolve : Resolve) (before after : Results) → AllLong n before → (q : Refusal)
-      → OneAnswers n c j resolve tree matrix before after (answer.Refused q) → ⊥
+      → OneAnswers n c j resolve tree matrix before after (Err q) → ⊥
   never_refused resolve before after L q (h, _) = not_refused (character_checks n c j tree matrix (result_slices n before)) (passes-one before L) q h
+
+  -- so it is answered with scores
+  pub scores_come : (resolve : Resolve) (before after : Results) → AllLong n before → (a : Result Scores Refusal)
+      → OneAnswers n c j resolve tree matrix before after a → IsOk a
+  scores_come resolve before after L (Ok s) h = refl
+  scores_come resolve before after L (Err q) h = absurd (never_refused resolve before after L q h)
 
   -- results that have their meaning are what the call answers, whatever the slices held
   pub scored-one : (resolve : Resolve) (before after : Results) → AllLong n before → (s : Scores) (ρ δ : ℕ) → Accepted n tree ρ δ

@@ -5,16 +5,18 @@ use mathlib.Core.Path.{◌≡◌, refl, sym, ◌∙◌, ap, subst}
 use mathlib.Core.List.{List, [], ◌++◌}
 use Prim.Native.Nat.{ℕ, zero, suc, ◌+◌, ◌-◌, ◌*◌, ◌≤◌, ◌<◌}
 use native.Mathlib.Decide.{ℕ_discrete, dec_le}
-use native.Mathlib.Nat.{suc-mul, mul_comm, mul-add, mul_left_comm, mul-le-mul_right, min-eq_left}
+use native.Mathlib.Nat.{suc-mul, mul_comm, mul-add, mul_left_comm, mul-le-mul_right}
 use native.Mathlib.Numerals.{add-one}
 use native.Mathlib.Omega.{arith}
 use lib.ListN.{length, take, length-take}
 use lib.Seq.{length-sets}
+use Rattle.std.specs.Prelude.{None}
+use Rattle.std.proofs.Common.{replicate}
+use Rattle.std.proofs.lemmas.List.{length-replicate}
 use Rattle.parsimony.specs.Lists.{choose}
 use Rattle.parsimony.specs.Table.{Accepted}
 use Rattle.parsimony.specs.Matrix.{state_of}
 use Rattle.parsimony.proofs.Sums.{choose_yes, choose_no}
-use Rattle.indices.specs.declared.Index.TheVariants.{None}
 use Rattle.choices.specs.declared.Resolve.{Resolve}
 use Rattle.trees.proofs.Unique.{one-shape}
 use Rattle.scores.specs.declared.Scores.{Scores}
@@ -42,9 +44,20 @@ turn-room k c room h = mul-le-mul_right room h
 
 -- ---- one character
 
--- of 254 entries, as many as there are interior nodes
-pub lent : (n : ℕ) (l : List ℕ) → length l ≡ 254 → n ≤ 256 → length (take (n - 2) l) ≡ n - 2
-lent n l e h = length-take (n - 2) l ∙ min-eq_left (omega arith)
+-- room for what is found of a character: of 254 entries, w are lent
+abbrev pub room : ℕ → List ℕ
+room w = take w (replicate 254 0)
+
+abbrev pub rooms : ℕ → Results
+rooms w = record { first_lows = room w; first_highs = room w; subtree = room w; final_lows = room w; final_highs = room w; states = room w }
+
+-- as many as there are interior nodes
+pub rooms-long : (n w : ℕ) → w ≡ n - 2 → n ≤ 256 → AllLong n (rooms w)
+rooms-long n w e h =
+    record { first_lows = long; first_highs = long; subtree = long; final_lows = long; final_highs = long; states = long }
+  where
+    long : length (room w) ≡ n - 2
+    long = omega (arith, e, length-take w (replicate {0} {A = ℕ} 254 0), length-replicate {0} {A = ℕ} 254 0)
 
 -- lists of the right length have an entry for each interior node
 pub lists_of : (n : ℕ) (r : Results) → 3 ≤ n → AllLong n r → Lists r.first_lows r.first_highs r.final_lows r.final_highs r.states
@@ -156,18 +169,15 @@ nothing =
     }
 
 -- after k characters
-pub record Turned (n c : ℕ) (r : Resolve) (tree matrix start : List ℕ) (at : ℕ) (lists : Results) (out : List ℕ) (next k : ℕ) : Type 0 where
-  pub most : k ≤ c
-  pub long : AllLong n lists
+pub record Turned (n c : ℕ) (r : Resolve) (tree matrix start : List ℕ) (at : ℕ) (out : List ℕ) (next k : ℕ) : Type 0 where
   pub size : length out ≡ length start
   pub some : Some n c k r tree matrix start out at next
 
 module _ (n c : ℕ) (r : Resolve) (tree matrix start : List ℕ) (at : ℕ) where
-  pub turned_none : (lists : Results) → AllLong n lists → Turned n c r tree matrix start at lists start at 0
-  turned_none lists L =
-      record { most = omega arith; long = L; size = refl; some = some-none n c r tree matrix start at nothing }
+  pub turned_none : Turned n c r tree matrix start at start at 0
+  turned_none = record { size = refl; some = some-none n c r tree matrix start at nothing }
 
-  module _ (lists : Results) (out : List ℕ) (next k : ℕ) (T : Turned n c r tree matrix start at lists out next k) where
+  module _ (out : List ℕ) (next k : ℕ) (T : Turned n c r tree matrix start at out next k) where
     pub turn-fits : k < c → at + c * character_room (n - 2) ≤ length start → next + character_room (n - 2) ≤ length out
     turn-fits h room =
         omega (
@@ -180,20 +190,18 @@ module _ (n c : ℕ) (r : Resolve) (tree matrix start : List ℕ) (at : ℕ) whe
           turn-room k c (character_room (n - 2)) h,
         )
 
-    pub turned_more : k < c → (lists' : Results) (out' : List ℕ) (next' : ℕ) → One n c (k + 1) r tree matrix lists' out out' next next'
-        → Turned n c r tree matrix start at lists' out' next' (k + 1)
-    turned_more h lists' out' next' O =
+    pub turned_more : (results : Results) (out' : List ℕ) (next' : ℕ) → One n c (k + 1) r tree matrix results out out' next next'
+        → Turned n c r tree matrix start at out' next' (k + 1)
+    turned_more results out' next' O =
         record {
-          most = omega arith;
-          long = O.means.long;
-          size = ap length O.fitting.written.list ∙ length-sets out next (character_lines (k + 1) O.scores lists') ∙ T.size;
+          size = ap length O.fitting.written.list ∙ length-sets out next (character_lines (k + 1) O.scores results) ∙ T.size;
           some =
               subst (λ i. Some n c i r tree matrix start out' at next') (sym (add-one k))
-              (some_more n c k r tree matrix start at lists' out out' next next' T.some
-              (subst (λ i. One n c i r tree matrix lists' out out' next next') (add-one k) O));
+              (some_more n c k r tree matrix start at results out out' next next' T.some
+              (subst (λ i. One n c i r tree matrix results out out' next next') (add-one k) O));
         }
 
-    pub turned_all : c ≤ k → Some n c c r tree matrix start out at next
-    turned_all h =
-        let e : k ≡ c = omega (arith, T.most) in
+    pub turned_all : k ≤ c → c ≤ k → Some n c c r tree matrix start out at next
+    turned_all most h =
+        let e : k ≡ c = omega arith in
         subst (λ i. Some n c i r tree matrix start out at next) e T.some
