@@ -2,18 +2,45 @@
 #![tactic(auto)]
 
 ghost use Rattle.repairs.specs.Repairs.{Correctable};
-ghost use Rattle.corrections.specs.Corrections.{Corrects};
+ghost use Rattle.corrections.specs.Corrections.{Admits, Corrects};
 
-use refusals::{Found, Refusal};
+use paths::Path;
+use refusals::{Reason, Refusal};
 
-// How many interior entries a correction rewrote, or a refusal.
-#[derive(Clone, Copy)]
-pub enum Count {
-    Rewritten(u32),
-    Refused(Refusal),
+// The path of a cell that may be corrected: 9, and 10 beside the path.
+fn admit(
+    n: usize,
+    c: usize,
+    taxon: usize,
+    character: usize,
+    state: u16,
+    tree: &[u16],
+    matrix: &[u16],
+    lows: &[u16],
+    highs: &[u16],
+    lengths: &[u32],
+) -> Result<Path, Refusal>
+    requires { Correctable n c taxon character tree.now matrix.now lows.now highs.now lengths.now }
+    ensures { Admits n c taxon character state tree.now matrix.now lows.now highs.now lengths.now result }
+{
+    if 9999 < state {
+        return Err(Refusal {
+            reason: Reason::Correction,
+            place: 0,
+        });
+    }
+    let path = paths::path_of(n, tree, taxon);
+    match repairs::look_beside(n, taxon, tree, &path, lows, highs, lengths) {
+        Some(node) => Err(Refusal {
+            reason: Reason::Kept,
+            place: node as u32,
+        }),
+        None => Ok(path),
+    }
 }
 
-// Corrects a cell: 9, and 10 beside the path; then the cell and the entries of the interior nodes between the taxon and the root are written.
+// Corrects a cell: 9, and 10 beside the path; then the cell and the entries of the interior nodes between the taxon and the root are written. The
+// answer is how many these are.
 pub fn correct_character(
     n: usize,
     c: usize,
@@ -25,28 +52,14 @@ pub fn correct_character(
     lows: &mut [u16],
     highs: &mut [u16],
     lengths: &mut [u32],
-) -> Count
+) -> Result<u32, Refusal>
     requires { Correctable n c taxon character tree.now matrix.old lows.old highs.old lengths.old }
     ensures { Corrects n c taxon character state tree.now matrix.old
         lows.old highs.old lengths.old matrix.new lows.new highs.new lengths.new result }
 {
-    if 9999 < state {
-        return Count::Refused(Refusal {
-            number: 9,
-            place: 0,
-        });
-    }
-    let mut path = [0u16; 254];
-    let count = paths::path(n, tree, taxon, &mut path);
-    let bad = repairs::look_beside(n, taxon, count, tree, &path, lows, highs, lengths);
-    if let Found::At(node) = bad {
-        return Count::Refused(Refusal {
-            number: 10,
-            place: node as u32,
-        });
-    }
+    let path = admit(n, c, taxon, character, state, tree, matrix, lows, highs, lengths)?;
     repairs::write_path(
-        n, c, taxon, character, state, count, tree, &path, matrix, lows, highs, lengths,
+        n, c, taxon, character, state, tree, &path, matrix, lows, highs, lengths,
     );
-    Count::Rewritten(count as u32)
+    Ok(path.count as u32)
 }

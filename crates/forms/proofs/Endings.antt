@@ -59,7 +59,7 @@ module _ (text : List ℕ) (i : ℕ) where
       }
     where
       no : (b : Bool) → b ≡ true → b ≡ false → ⊥
-      no b e f = let z : ◌≡◌ {A = ℕ} 0 1 = cc in omega arith
+      no b e f = cc
 
       other : (r : Resolve) (more : List ℕ) → drop i text ≡ resolve_line r ++ more → ⊥
       other Acctran more e = no (starts_at text i (resolve_line Acctran)) (key_read (resolve_line Acctran) text i more e) a

@@ -62,14 +62,14 @@ module _ (text : List ℕ) where
       B.text_is ∙ ap (λ (t : List ℕ). t ++ B.rest) (append-nil (line taxa_key (s.taxa ∷ []))) in
       let (j, got, rest) = head_read text taxa_key 0 s.taxa B.rest B.sized.taxa_fit e in
       let f : None ≡ parsed s.taxa j = sym bad ∙ got in
-      let z : ◌≡◌ {A = ℕ} 0 1 = cc in omega arith
+      cc
 
   second_not : (n a : ℕ) → n ≤ 65535 → text ≡ line taxa_key (n ∷ []) ++ drop a text → head_at text characters_key a ≡ None → NotInForm text 2
   second_not n a h e bad (s, B) =
       let (taxa, f) = agree-first text n (drop a text) h e s 0 B in
       let (j, got, rest) = head_read text characters_key a s.characters _ B.sized.characters_fit (sym f) in
       let g : None ≡ parsed s.characters j = sym bad ∙ got in
-      let z : ◌≡◌ {A = ℕ} 0 1 = cc in omega arith
+      cc
 
   -- ---- the third
 
@@ -80,7 +80,7 @@ module _ (text : List ℕ) where
       let some : 0 < length s.ancestors = omega (arith, W.least_taxa) in
       let (j, got, rest) = line_read text ancestors_key i s.ancestors _ some B.sized.ancestors_fit (e ∙ after_third s 0 B.rest) in
       let f : cut vs ≡ all s.ancestors j = sym bad ∙ ap (λ k. line_at text ancestors_key k i) (sym size) ∙ got in
-      let z : ◌≡◌ {A = ℕ} 0 1 = cc in omega arith
+      cc
 
   -- ---- the refusals of the first three lines
 
@@ -176,7 +176,7 @@ module _ (text : List ℕ) (short : length text ≤ 32768) (n c : ℕ) (tree : L
       (e ∙ ap (λ (l : List ℕ). l ++ B.rest) (front_print s (suc t) enough)) in
       let f : wrong m C.numbers ≡ whole (take (suc t) s.rows) k =
       sym C.stops ∙ ap (λ q. rows_at text c q 4 j) (sym (length-take-le (suc t) s.rows enough)) ∙ got in
-      let z : ◌≡◌ {A = ℕ} 0 1 = cc in omega arith
+      cc
 
   pub refused_row : (m : ℕ) → RowsCut text c n 4 j m → Refuses (text_checks text) (record { reason = Form; place = m })
   refused_row m C =

@@ -9,17 +9,18 @@ use native.Mathlib.Decide.{ℕ_discrete, dec_le}
 use native.Mathlib.Omega.{arith}
 use lib.ListN.{length, get_or, set, length-set}
 use lib.Seq.{get_or-set_same, get_or-set_other}
+use Rattle.std.specs.Prelude.{None, Result, Ok, Err}
 use Rattle.parsimony.specs.Lists.{choose}
 use Rattle.parsimony.specs.Matrix.{cell_number, state_of}
 use Rattle.parsimony.specs.Character.{FirstMeans}
 use Rattle.parsimony.proofs.Matrices.{cell_in, state-other}
+use Rattle.refusals.specs.declared.Reason.TheVariants as reason
 use Rattle.refusals.specs.declared.Refusal.{Refusal}
 use Rattle.refusals.specs.Search.{Never}
 use Rattle.refusals.specs.Checks.{Check, at, Clear, Refuses, Passes}
 use Rattle.refusals.proofs.Order.{not_refused, clear_at}
 use Rattle.cells.specs.Above.{AboveAt}
 use Rattle.cells.proofs.Reading.{none_above}
-use Rattle.limits.specs.declared.Lent.TheVariants.{Exact}
 use Rattle.limits.specs.Limits.{Outside, lent_slices}
 use Rattle.limits.proofs.Lending.{not_outside}
 use Rattle.checks.specs.Calls.{NoCharacter, character_cell}
@@ -28,8 +29,6 @@ use Rattle.checks.proofs.Orders.{passes-call}
 use Rattle.tables.specs.Tables.{stretch}
 use Rattle.mending.proofs.Means.{mended-means}
 use Rattle.repairs.specs.Repairs.{with_cell}
-use Rattle.corrections.specs.declared.Count.{Count}
-use Rattle.corrections.specs.declared.Count.TheVariants as count
 use Rattle.histories.specs.Kept.{Table, table_slices, Means, NoTaxon, correction_checks, correct_checks, Corrected, Corrects}
 use Rattle.histories.specs.Histories.{Correction, Kept, After, with_one, with_all}
 use Rattle.histories.proofs.Passed.{passed, in_order}
@@ -123,8 +122,8 @@ module _ (n c t j s : ℕ) (tree matrix : List ℕ) (T : Table) (B : Stands n c 
       )
 
   -- 8, where there is no such cell
-  pub refuses_8 : NoTaxon n t ⊎ NoCharacter c j → Refuses (correct_checks n c t j s tree matrix T) (refusal 8 0)
-  refuses_8 h = refuses_later (refusal 8 0) (inl (refl, (refl, h)))
+  pub refuses_8 : NoTaxon n t ⊎ NoCharacter c j → Refuses (correct_checks n c t j s tree matrix T) (refusal reason.Character 0)
+  refuses_8 h = refuses_later (refusal reason.Character 0) (inl (refl, (refl, h)))
 
   module _ (H : HasCell n c t j) where
     clear_8 : Clear (at 8 0 (NoTaxon n t ⊎ NoCharacter c j))
@@ -137,14 +136,14 @@ module _ (n c t j s : ℕ) (tree matrix : List ℕ) (T : Table) (B : Stands n c 
     clear_7 = clear-cell n c j matrix (none_above n c j matrix H.character.0 H.character.1 B.small)
 
     -- 9, where the state is above 9999
-    pub refuses_9 : 9999 < s → Refuses (correct_checks n c t j s tree matrix T) (refusal 9 0)
-    refuses_9 h = refuses_later (refusal 9 0) (inr (clear_8, inr (clear_7, inl (refl, (refl, h)))))
+    pub refuses_9 : 9999 < s → Refuses (correct_checks n c t j s tree matrix T) (refusal reason.Correction 0)
+    refuses_9 h = refuses_later (refusal reason.Correction 0) (inr (clear_8, inr (clear_7, inl (refl, (refl, h)))))
 
     -- and none, where it is not
     pub correct_passes : s ≤ 9999 → Passes (correct_checks n c t j s tree matrix T)
     correct_passes l =
         let clear-10 = clear-path n c tree matrix T B j H.character.0 H.character.1 t in
-        passes-call n c tree matrix (table_slices n c T) B.limits Exact (exact-slices n c tree matrix T B T B.means.long) checks refl
+        passes-call n c tree matrix (table_slices n c T) B.limits None (exact-slices n c tree matrix T B T B.means.long) checks refl
         B.ρ B.δ B.accepted (clear_8, (clear_7, (clear_at 9 0 (9999 < s) (λ h. omega arith), (clear-10, tt))))
 
   module _ (matrix' : List ℕ) (T' : Table) where
@@ -162,19 +161,19 @@ module _ (n c t j s : ℕ) (tree matrix : List ℕ) (T : Table) (B : Stands n c 
           means = means-on n c t j s tree matrix T matrix' T' k C B.means;
         }
 
-    module _ (r : Count) (D : Corrects n c t j s tree matrix T matrix' T' r) where
+    module _ (r : Result ℕ Refusal) (D : Corrects n c t j s tree matrix T matrix' T' r) where
       -- a correction that some check refuses is refused so, and changes nothing
-      pub refused_so : (q : Refusal) → Refuses (correct_checks n c t j s tree matrix T) q → (r ≡ count.Refused q) × (matrix' ≡ matrix) × (T' ≡ T)
-      refused_so q h = correct_outcome n c t j s tree matrix T matrix' matrix T' T r (count.Refused q) D (h, refl, refl)
+      pub refused_so : (q : Refusal) → Refuses (correct_checks n c t j s tree matrix T) q → (r ≡ Err q) × (matrix' ≡ matrix) × (T' ≡ T)
+      refused_so q h = correct_outcome n c t j s tree matrix T matrix' matrix T' T r (Err q) D (h, refl, refl)
 
       -- any other is accepted
-      pub accepted_so : HasCell n c t j → s ≤ 9999 → (k : ℕ) × (r ≡ count.Rewritten k) × Corrected n c t j s tree matrix T matrix' T' k
+      pub accepted_so : HasCell n c t j → s ≤ 9999 → (k : ℕ) × (r ≡ Ok k) × Corrected n c t j s tree matrix T matrix' T' k
       accepted_so H l = go r D
         where
-          go : (r : Count) → Corrects n c t j s tree matrix T matrix' T' r
-              → (k : ℕ) × (r ≡ count.Rewritten k) × Corrected n c t j s tree matrix T matrix' T' k
-          go (count.Rewritten k) C = (k, refl, C)
-          go (count.Refused q) C = absurd (not_refused (correct_checks n c t j s tree matrix T) (correct_passes H l) q C.0)
+          go : (r : Result ℕ Refusal) → Corrects n c t j s tree matrix T matrix' T' r
+              → (k : ℕ) × (r ≡ Ok k) × Corrected n c t j s tree matrix T matrix' T' k
+          go (Ok k) C = (k, refl, C)
+          go (Err q) C = absurd (not_refused (correct_checks n c t j s tree matrix T) (correct_passes H l) q C.0)
 
       -- either way the matrix is as it should be, and the table stands
       pub step : (matrix' ≡ with_one n c (record { taxon = t; character = j; state = s }) matrix) × Stands n c tree matrix' T'
@@ -188,12 +187,12 @@ module _ (n c t j s : ℕ) (tree matrix : List ℕ) (T : Table) (B : Stands n c 
           go : (a : Dec (1 ≤ t)) (b : Dec (t ≤ n)) (d : Dec (1 ≤ j)) (e : Dec (j ≤ c)) (f : Dec (s ≤ 9999))
               → (matrix' ≡ choose a (choose b (choose d (choose e (choose f (with_cell c t j s matrix) matrix) matrix) matrix) matrix) matrix)
               × Stands n c tree matrix' T'
-          go (no a) b d e f = refused (refusal 8 0) (refuses_8 (inl (inl (omega arith))))
-          go (yes a) (no b) d e f = refused (refusal 8 0) (refuses_8 (inl (inr (omega arith))))
-          go (yes a) (yes b) (no d) e f = refused (refusal 8 0) (refuses_8 (inr (inl (omega arith))))
-          go (yes a) (yes b) (yes d) (no e) f = refused (refusal 8 0) (refuses_8 (inr (inr (omega arith))))
+          go (no a) b d e f = refused (refusal reason.Character 0) (refuses_8 (inl (inl (omega arith))))
+          go (yes a) (no b) d e f = refused (refusal reason.Character 0) (refuses_8 (inl (inr (omega arith))))
+          go (yes a) (yes b) (no d) e f = refused (refusal reason.Character 0) (refuses_8 (inr (inl (omega arith))))
+          go (yes a) (yes b) (yes d) (no e) f = refused (refusal reason.Character 0) (refuses_8 (inr (inr (omega arith))))
           go (yes a) (yes b) (yes d) (yes e) (no f) =
-              refused (refusal 9 0) (refuses_9 (record { taxon = (a, b); character = (d, e) }) (omega arith))
+              refused (refusal reason.Correction 0) (refuses_9 (record { taxon = (a, b); character = (d, e) }) (omega arith))
           go (yes a) (yes b) (yes d) (yes e) (yes f) =
               let (k, _, C) = accepted_so (record { taxon = (a, b); character = (d, e) }) f in
               (C.cell, stands_on f k C)

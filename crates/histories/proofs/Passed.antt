@@ -10,6 +10,7 @@ use lib.ListN.{length}
 use Rattle.parsimony.specs.Table.{Accepted}
 use Rattle.parsimony.specs.Matrix.{cell_number}
 use Rattle.refusals.specs.declared.Refusal.{Refusal}
+use Rattle.refusals.specs.Reasons.{number}
 use Rattle.refusals.specs.Search.{Never}
 use Rattle.refusals.specs.Checks.{Check, at, Clear, Refuses, Passes, Slice, slices}
 use Rattle.refusals.proofs.Laws.{never_lowest}
@@ -130,7 +131,7 @@ Numbered P [] = Unit {0}
 Numbered P (c ∷ cs) = P c.number × Numbered P cs
 
 -- so has a refusal by one of them
-refused-number : (P : ℕ → Type 0) (cs : List {1} Check) → Numbered P cs → (r : Refusal) → Refuses cs r → P r.number
+refused-number : (P : ℕ → Type 0) (cs : List {1} Check) → Numbered P cs → (r : Refusal) → Refuses cs r → P (number r)
 refused-number P [] _ r x3 = elim x3 [ ]
 refused-number P (c ∷ cs) (p, ps) r (inl (e, h)) = subst P (sym e) p
 refused-number P (c ∷ cs) (p, ps) r (inr (n, h)) = refused-number P cs ps r h
@@ -149,7 +150,7 @@ Early k = k < 10
 
 -- A call whose last check is `last`, and whose others have numbers below 10: so has its refusal, if the last does not apply where the others do not.
 module _ (n c : ℕ) (tree matrix : List ℕ) (rest : List Slice) (later : List {1} Check) (E : Numbered Early later) where
-  early : (r : Refusal) → Refuses (call n c tree matrix rest later) r → Early r.number
+  early : (r : Refusal) → Refuses (call n c tree matrix rest later) r → Early (number r)
   early =
       refused-number Early (call n c tree matrix rest later) (
         omega arith,
@@ -159,9 +160,9 @@ module _ (n c : ℕ) (tree matrix : List ℕ) (rest : List Slice) (later : List 
       )
 
   pub not_the_last : (last : Check) → (Passes (call n c tree matrix rest later) → Clear last) → (r : Refusal)
-      → Refuses (call n c tree matrix rest later ++ (last ∷ [])) r → Early r.number
+      → Refuses (call n c tree matrix rest later ++ (last ∷ [])) r → Early (number r)
   not_the_last last clear r h = go (refuses_split (call n c tree matrix rest later) (last ∷ []) r h)
     where
-      go : Refuses (call n c tree matrix rest later) r ⊎ (Passes (call n c tree matrix rest later) × Refuses (last ∷ []) r) → Early r.number
+      go : Refuses (call n c tree matrix rest later) r ⊎ (Passes (call n c tree matrix rest later) × Refuses (last ∷ []) r) → Early (number r)
       go (inl k) = early r k
       go (inr (P, k)) = absurd (not_refused (last ∷ []) (clear P, tt) r k)

@@ -6,6 +6,7 @@ use mathlib.Core.List.{List}
 use Prim.Native.Nat.{ℕ, ◌-◌, ◌*◌, ◌≤◌}
 use native.Mathlib.Omega.{arith}
 use lib.ListN.{length}
+use Rattle.std.specs.Prelude.{None}
 use Rattle.parsimony.specs.Table.{Accepted}
 use Rattle.parsimony.specs.Matrix.{state_of}
 use Rattle.parsimony.specs.Character.{FirstMeans}
@@ -17,7 +18,6 @@ use Rattle.refusals.proofs.Order.{clear_slice, clear-lowest}
 use Rattle.cells.specs.Above.{AboveAt, AboveIn}
 use Rattle.cells.proofs.Reading.{none_above, states-small}
 use Rattle.trees.specs.Answers.{Sized}
-use Rattle.limits.specs.declared.Lent.TheVariants.{Exact}
 use Rattle.limits.specs.Limits.{lent_slices, InLimits}
 use Rattle.checks.specs.Calls.{all_checks}
 use Rattle.checks.proofs.Orders.{matrix-passes}
@@ -97,7 +97,7 @@ module _ (n c : ℕ) (tree matrix : List ℕ) where
     -- a build into them is not refused
     pub build-passes : (T₁ : Table) → TableLong n c T₁.lows T₁.highs T₁.lengths → Passes (build_checks n c tree matrix T₁)
     build-passes T₁ L =
-        matrix-passes n c tree matrix (table_slices n c T₁) B.limits Exact (exact-slices T₁ L) refl B.ρ B.δ B.accepted B.small
+        matrix-passes n c tree matrix (table_slices n c T₁) B.limits None (exact-slices T₁ L) refl B.ρ B.δ B.accepted B.small
 
     -- 10 applies nowhere: neither in one character, nor beside a path in it, nor in all
     module _ (j : ℕ) (p : 1 ≤ j) (q : j ≤ c) where

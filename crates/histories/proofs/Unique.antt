@@ -6,10 +6,12 @@ use Prim.Native.Nat.{ℕ, ◌-◌, ◌*◌, ◌≤◌, ◌<◌}
 use native.Mathlib.Decide.{ℕ_discrete, dec_le}
 use native.Mathlib.Omega.{arith}
 use lib.ListN.{length}
+use Rattle.std.specs.Prelude.{Result, Ok, Err}
 use Rattle.parsimony.specs.Matrix.{state_of}
 use Rattle.parsimony.specs.Character.{at_node, cells}
 use Rattle.parsimony.proofs.Characters.{same_entries}
 use Rattle.parsimony.proofs.Uniqueness.{one-ordered-entry}
+use Rattle.refusals.specs.declared.Refusal.{Refusal}
 use Rattle.refusals.proofs.Laws.{lowest-one, lowest_never}
 use Rattle.refusals.proofs.Order.{Sure, AllSure, sure_at, sure_lowest, sure_append, one-refusal, not_refused}
 use Rattle.trees.proofs.Unique.{one-shape}
@@ -21,12 +23,6 @@ use Rattle.tables.proofs.Stretches.{stretch_in, stretch-long, same_stretches}
 use Rattle.entries.specs.Entries.{BadIn, all_entries}
 use Rattle.descents.proofs.Unique.{one-finals}
 use Rattle.mending.proofs.Unique.{one-mended}
-use Rattle.corrections.specs.declared.Count.{Count}
-use Rattle.corrections.specs.declared.Count.TheVariants as count
-use Rattle.tallies.specs.declared.Length.{Length}
-use Rattle.tallies.specs.declared.Length.TheVariants as length'
-use Rattle.histories.specs.declared.Built.{Built}
-use Rattle.histories.specs.declared.Built.TheVariants as built
 use Rattle.histories.specs.Kept.{
   Table,
   table_slices,
@@ -97,16 +93,16 @@ module _ (n c : ℕ) (tree matrix : List ℕ) (nodes : length tree ≡ 2 * n - 2
 
 -- The table is built: any two outcomes are equal, the answer and the three slices.
 module _ (n c : ℕ) (tree matrix : List ℕ) (before : Table) where
-  pub build_outcome : (after after' : Table) (r r' : Built) → Builds n c tree matrix before after r → Builds n c tree matrix before after' r'
+  pub build_outcome : (after after' : Table) (r r' : Result (Unit {0}) Refusal) → Builds n c tree matrix before after r → Builds n c tree matrix before after' r'
       → (r ≡ r') × (after ≡ after')
-  build_outcome after after' built.Done built.Done (P, M) (P', M') = (
+  build_outcome after after' (Ok _) (Ok _) (P, M) (P', M') = (
     refl,
     one_meaning n c tree matrix (passed n c tree matrix (table_slices n c before) (all_checks n c matrix) P).nodes after after' M M',
   )
-  build_outcome after after' built.Done (built.Refused q) h h' = absurd (not_refused (build_checks n c tree matrix before) h.0 q h'.0)
-  build_outcome after after' (built.Refused q) built.Done h h' = absurd (not_refused (build_checks n c tree matrix before) h'.0 q h.0)
-  build_outcome after after' (built.Refused q) (built.Refused q') h h' = (
-    ap built.Refused
+  build_outcome after after' (Ok _) (Err q) h h' = absurd (not_refused (build_checks n c tree matrix before) h.0 q h'.0)
+  build_outcome after after' (Err q) (Ok _) h h' = absurd (not_refused (build_checks n c tree matrix before) h'.0 q h.0)
+  build_outcome after after' (Err q) (Err q') h h' = (
+    ap Err
         (one-refusal (build_checks n c tree matrix before) (sure_matrix n c tree matrix (table_slices n c before)) q q' h.0 h'.0),
     h.1 ∙ sym h'.1,
   )
@@ -145,19 +141,19 @@ module _ (n c t j s : ℕ) (tree matrix : List ℕ) (T : Table) where
             let (a', b', d') = C'.others i p q e in
             (a ∙ sym a', b ∙ sym b', d ∙ sym d')
 
-  pub correct_outcome : (matrix' matrix'' : List ℕ) (T' T'' : Table) (r r' : Count) → Corrects n c t j s tree matrix T matrix' T' r
+  pub correct_outcome : (matrix' matrix'' : List ℕ) (T' T'' : Table) (r r' : Result ℕ Refusal) → Corrects n c t j s tree matrix T matrix' T' r
       → Corrects n c t j s tree matrix T matrix'' T'' r' → (r ≡ r') × (matrix' ≡ matrix'') × (T' ≡ T'')
-  correct_outcome matrix' matrix'' T' T'' (count.Rewritten k) (count.Rewritten k') C C' = (
-    ap count.Rewritten (C.count ∙ sym C'.count),
+  correct_outcome matrix' matrix'' T' T'' (Ok k) (Ok k') C C' = (
+    ap Ok (C.count ∙ sym C'.count),
     same-matrix matrix' matrix'' T' T'' k k' C C',
     corrected_table matrix' matrix'' T' T'' k k' C C',
   )
-  correct_outcome matrix' matrix'' T' T'' (count.Rewritten k) (count.Refused q) C C' =
+  correct_outcome matrix' matrix'' T' T'' (Ok k) (Err q) C C' =
       absurd (not_refused (correct_checks n c t j s tree matrix T) C.passes q C'.0)
-  correct_outcome matrix' matrix'' T' T'' (count.Refused q) (count.Rewritten k) C C' =
+  correct_outcome matrix' matrix'' T' T'' (Err q) (Ok k) C C' =
       absurd (not_refused (correct_checks n c t j s tree matrix T) C'.passes q C.0)
-  correct_outcome matrix' matrix'' T' T'' (count.Refused q) (count.Refused q') C C' = (
-    ap count.Refused (one-refusal (correct_checks n c t j s tree matrix T) sure_correct q q' C.0 C'.0),
+  correct_outcome matrix' matrix'' T' T'' (Err q) (Err q') C C' = (
+    ap Err (one-refusal (correct_checks n c t j s tree matrix T) sure_correct q q' C.0 C'.0),
     C.1 ∙ sym C'.1,
     C.2 ∙ sym C'.2,
   )
@@ -187,12 +183,12 @@ module _ (n c : ℕ) (tree matrix : List ℕ) (T : Table) where
       let (p, q) = one-shape n tree H.ρ H.δ H.accepted H'.ρ H'.δ H'.accepted in
       H.total ∙ rw (p, q) (sym H'.total)
 
-  pub kept-length-answer : (r r' : Length) → HasLengths n c tree matrix T r → HasLengths n c tree matrix T r' → r ≡ r'
-  kept-length-answer (length'.Length l) (length'.Length l') h h' = ap length'.Length (one-length l l' h h')
-  kept-length-answer (length'.Length l) (length'.Refused q) h h' = absurd (not_refused (length_checks n c tree matrix T) h.passes q h')
-  kept-length-answer (length'.Refused q) (length'.Length l) h h' = absurd (not_refused (length_checks n c tree matrix T) h'.passes q h)
-  kept-length-answer (length'.Refused q) (length'.Refused q') h h' =
-      ap length'.Refused (one-refusal (length_checks n c tree matrix T) sure_length q q' h h')
+  pub kept-length-answer : (r r' : Result ℕ Refusal) → HasLengths n c tree matrix T r → HasLengths n c tree matrix T r' → r ≡ r'
+  kept-length-answer (Ok l) (Ok l') h h' = ap Ok (one-length l l' h h')
+  kept-length-answer (Ok l) (Err q) h h' = absurd (not_refused (length_checks n c tree matrix T) h.passes q h')
+  kept-length-answer (Err q) (Ok l) h h' = absurd (not_refused (length_checks n c tree matrix T) h'.passes q h)
+  kept-length-answer (Err q) (Err q') h h' =
+      ap Err (one-refusal (length_checks n c tree matrix T) sure_length q q' h h')
 
 -- ---- one kept character
 
@@ -212,19 +208,19 @@ module _ (n c j : ℕ) (tree matrix : List ℕ) (T : Table) (lows highs : List �
       (rw (p, q) H'.finals) in
       (H.length ∙ rw (p, q) (sym H'.length), e, d)
 
-  -- by the cases of two answers, as for a correction, whose enum is another
-  pub kept_character_outcome : (lows' highs' lows'' highs'' : List ℕ) (r r' : Length)
+  -- by the cases of two answers, as for a correction, which leaves a matrix and a table beside
+  pub kept_character_outcome : (lows' highs' lows'' highs'' : List ℕ) (r r' : Result ℕ Refusal)
       → AnswersKept n c j tree matrix T lows highs lows' highs' r → AnswersKept n c j tree matrix T lows highs lows'' highs'' r'
       → (r ≡ r') × (lows' ≡ lows'') × (highs' ≡ highs'')
-  kept_character_outcome lows' highs' lows'' highs'' (length'.Length l) (length'.Length l') h h' =
+  kept_character_outcome lows' highs' lows'' highs'' (Ok l) (Ok l') h h' =
       let (e, a, b) = both-finals lows' highs' lows'' highs'' l l' h h' in
-      (ap length'.Length e, a, b)
-  kept_character_outcome lows' highs' lows'' highs'' (length'.Length l) (length'.Refused q) h h' =
+      (ap Ok e, a, b)
+  kept_character_outcome lows' highs' lows'' highs'' (Ok l) (Err q) h h' =
       absurd (not_refused (kept_checks n c j tree matrix T lows highs) h.passes q h'.0)
-  kept_character_outcome lows' highs' lows'' highs'' (length'.Refused q) (length'.Length l) h h' =
+  kept_character_outcome lows' highs' lows'' highs'' (Err q) (Ok l) h h' =
       absurd (not_refused (kept_checks n c j tree matrix T lows highs) h'.passes q h.0)
-  kept_character_outcome lows' highs' lows'' highs'' (length'.Refused q) (length'.Refused q') h h' = (
-    ap length'.Refused (one-refusal (kept_checks n c j tree matrix T lows highs) sure_kept q q' h.0 h'.0),
+  kept_character_outcome lows' highs' lows'' highs'' (Err q) (Err q') h h' = (
+    ap Err (one-refusal (kept_checks n c j tree matrix T lows highs) sure_kept q q' h.0 h'.0),
     h.1 ∙ sym h'.1,
     h.2 ∙ sym h'.2,
   )

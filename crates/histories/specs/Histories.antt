@@ -1,10 +1,10 @@
 -- A list of corrections, made one after the other: what each does is what the call promises (`Corrects`), and nothing else happens between them.
 -- Assumes nothing.
-use Rattle.std.specs.Prelude.{◌≡◌, List, [], ◌∷◌, ℕ}
+use Rattle.std.specs.Prelude.{◌≡◌, List, [], ◌∷◌, ℕ, Result}
 use Rattle.std.proofs.Math.Decide.{dec_le}
 use Rattle.parsimony.specs.Lists.{choose}
+use Rattle.refusals.specs.declared.Refusal.{Refusal}
 use Rattle.repairs.specs.Repairs.{with_cell}
-use Rattle.corrections.specs.declared.Count.{Count}
 use Rattle.histories.specs.Kept.{Table, Corrects}
 
 -- a taxon, a character, and the state that its cell is to have
@@ -22,8 +22,8 @@ pub record Kept : Type 0 where
 abbrev pub After : (n c : ℕ) (tree : List ℕ) → List Correction → Kept → Kept → Type 0
 After n c tree [] before after = after ≡ before
 After n c tree (x ∷ xs) before after =
-    (count : Count) × (next : Kept)
-    × Corrects n c x.taxon x.character x.state tree before.matrix before.table next.matrix next.table count
+    (answer : Result ℕ Refusal) × (next : Kept)
+    × Corrects n c x.taxon x.character x.state tree before.matrix before.table next.matrix next.table answer
     × After n c tree xs next after
 
 -- the matrix with one correction, if there is such a cell and the state is not above 9999, and else as it was

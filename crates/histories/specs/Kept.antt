@@ -1,8 +1,9 @@
--- What the calls of the kept table answer: for each case of the enum, and for each lent slice.
+-- What the calls of the kept table answer: a value or a refusal, and for each lent slice.
 -- Assumes nothing.
-use Rattle.std.specs.Prelude.{◌≡◌, ◌≢◌, ◌⊎◌, List, [], ◌∷◌, ◌++◌, ℕ, ◌-◌, ◌*◌, ◌≤◌, ◌<◌, length}
+use Rattle.std.specs.Prelude.{◌≡◌, ◌≢◌, ◌⊎◌, List, [], ◌∷◌, ◌++◌, ℕ, ◌-◌, ◌*◌, ◌≤◌, ◌<◌, length, Result, Ok, Err}
 use Rattle.parsimony.specs.Lists.{sum, from}
 use Rattle.parsimony.specs.Table.{between, Accepted}
+use Rattle.refusals.specs.declared.Refusal.{Refusal}
 use Rattle.refusals.specs.Checks.{Check, at, Refuses, Passes, Slice, slices}
 use Rattle.trees.specs.Answers.{tree_faults}
 use Rattle.limits.specs.Limits.{Outside, node_slice, lent_slices}
@@ -14,13 +15,7 @@ use Rattle.mending.specs.Mending.{Mended}
 use Rattle.repairs.specs.Repairs.{with_cell}
 use Rattle.corrections.specs.Corrections.{state_checks}
 use Rattle.table_corrections.specs.TableCorrections.{SameStretch}
-use Rattle.corrections.specs.declared.Count.{Count}
-use Rattle.corrections.specs.declared.Count.TheVariants as count
 use Rattle.tallies.specs.Tallies.{length_in}
-use Rattle.histories.specs.declared.Built.{Built}
-use Rattle.histories.specs.declared.Built.TheVariants as built
-use Rattle.tallies.specs.declared.Length.{Length}
-use Rattle.tallies.specs.declared.Length.TheVariants as length'
 
 -- ---- the kept table
 
@@ -50,9 +45,9 @@ abbrev pub build_checks : (n c : ℕ) (tree matrix : List ℕ) → Table → Lis
 build_checks n c tree matrix T = matrix_checks n c tree matrix (table_slices n c T)
 
 -- The answer: the table has its meaning; or a refusal, by the first check that applies, and nothing is changed.
-abbrev pub Builds : (n c : ℕ) (tree matrix : List ℕ) (before after : Table) → Built → Type 0
-Builds n c tree matrix before after built.Done = Passes (build_checks n c tree matrix before) × Means n c tree matrix after
-Builds n c tree matrix before after (built.Refused r) = Refuses (build_checks n c tree matrix before) r × (after ≡ before)
+abbrev pub Builds : (n c : ℕ) (tree matrix : List ℕ) (before after : Table) → Result (Unit {0}) Refusal → Type 0
+Builds n c tree matrix before after (Ok _) = Passes (build_checks n c tree matrix before) × Means n c tree matrix after
+Builds n c tree matrix before after (Err r) = Refuses (build_checks n c tree matrix before) r × (after ≡ before)
 
 -- ---- correct one cell
 
@@ -87,9 +82,9 @@ pub record Corrected (n c t j s : ℕ) (tree matrix : List ℕ) (T : Table) (mat
       (stretch (n - 2) T'.lows j) (stretch (n - 2) T'.highs j) (stretch (n - 2) T'.lengths j)
 
 -- The answer: the count; or a refusal, by the first check that applies, and nothing is changed.
-abbrev pub Corrects : (n c t j s : ℕ) (tree matrix : List ℕ) (T : Table) (matrix' : List ℕ) (T' : Table) → Count → Type 0
-Corrects n c t j s tree matrix T matrix' T' (count.Rewritten k) = Corrected n c t j s tree matrix T matrix' T' k
-Corrects n c t j s tree matrix T matrix' T' (count.Refused r) =
+abbrev pub Corrects : (n c t j s : ℕ) (tree matrix : List ℕ) (T : Table) (matrix' : List ℕ) (T' : Table) → Result ℕ Refusal → Type 0
+Corrects n c t j s tree matrix T matrix' T' (Ok k) = Corrected n c t j s tree matrix T matrix' T' k
+Corrects n c t j s tree matrix T matrix' T' (Err r) =
     Refuses (correct_checks n c t j s tree matrix T) r × (matrix' ≡ matrix) × (T' ≡ T)
 
 -- ---- the kept tree length
@@ -108,9 +103,9 @@ pub record HasLength (n c : ℕ) (tree matrix : List ℕ) (T : Table) (l : ℕ) 
   pub total : l ≡ sum (length_in n c ρ δ tree matrix T.lows T.highs T.lengths) (from 1 c)
 
 -- The answer: the length; or a refusal, by the first check that applies. All slices are lent to be read only.
-abbrev pub HasLengths : (n c : ℕ) (tree matrix : List ℕ) (T : Table) → Length → Type 0
-HasLengths n c tree matrix T (length'.Length l) = HasLength n c tree matrix T l
-HasLengths n c tree matrix T (length'.Refused r) = Refuses (length_checks n c tree matrix T) r
+abbrev pub HasLengths : (n c : ℕ) (tree matrix : List ℕ) (T : Table) → Result ℕ Refusal → Type 0
+HasLengths n c tree matrix T (Ok l) = HasLength n c tree matrix T l
+HasLengths n c tree matrix T (Err r) = Refuses (length_checks n c tree matrix T) r
 
 -- ---- one kept character
 
@@ -134,7 +129,7 @@ pub record HasFinals (n c j : ℕ) (tree matrix : List ℕ) (T : Table) (lows hi
   pub finals : Finals n c j ρ δ tree matrix (stretch (n - 2) T.lows j) (stretch (n - 2) T.highs j) lows' highs'
 
 -- The answer: the length, and the final ranges in their slices; or a refusal, by the first check that applies, and nothing is changed.
-abbrev pub AnswersKept : (n c j : ℕ) (tree matrix : List ℕ) (T : Table) (lows highs lows' highs' : List ℕ) → Length → Type 0
-AnswersKept n c j tree matrix T lows highs lows' highs' (length'.Length l) = HasFinals n c j tree matrix T lows highs lows' highs' l
-AnswersKept n c j tree matrix T lows highs lows' highs' (length'.Refused r) =
+abbrev pub AnswersKept : (n c j : ℕ) (tree matrix : List ℕ) (T : Table) (lows highs lows' highs' : List ℕ) → Result ℕ Refusal → Type 0
+AnswersKept n c j tree matrix T lows highs lows' highs' (Ok l) = HasFinals n c j tree matrix T lows highs lows' highs' l
+AnswersKept n c j tree matrix T lows highs lows' highs' (Err r) =
     Refuses (kept_checks n c j tree matrix T lows highs) r × (lows' ≡ lows) × (highs' ≡ highs)

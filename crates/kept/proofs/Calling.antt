@@ -8,6 +8,7 @@ use native.Mathlib.Decide.{dec_le}
 use native.Mathlib.Nat.{mul-le-mul_right}
 use native.Mathlib.Omega.{arith}
 use lib.ListN.{length}
+use Rattle.std.specs.Prelude.{Option, None, Result, Ok, Err}
 use Rattle.parsimony.specs.Table.{Accepted}
 use Rattle.parsimony.specs.Matrix.{state_of}
 use Rattle.parsimony.proofs.Tables.Trees.{Tree, δ-most}
@@ -15,12 +16,11 @@ use Rattle.parsimony.proofs.Tables.Whole.{δ-inner}
 use Rattle.refusals.specs.declared.Refusal.{Refusal}
 use Rattle.refusals.specs.Checks.{Check, at, Clear, Refuses, Passes, Slice, slices}
 use Rattle.refusals.proofs.Order.{clear_at, refuses_before, refuses_after, passes_append}
+use Rattle.trees.specs.declared.Rooted.{Rooted}
 use Rattle.trees.specs.Answers.{tree_faults}
 use Rattle.trees.proofs.Unique.{accepted-passes}
-use Rattle.limits.specs.declared.Lent.{Lent}
 use Rattle.limits.specs.Limits.{Outside, lent_slices, Told, InLimits}
 use Rattle.limits.proofs.Lending.{exact-clear, not_outside}
-use Rattle.checks.specs.declared.Admission.TheVariants.{Admitted, Refused}
 use Rattle.checks.specs.Calls.{NoCharacter, character_cell, cell_checks, matrix_checks, AdmitsCharacter, AdmitsMatrix}
 use Rattle.checks.proofs.Admitting.{clear-cell}
 use Rattle.checks.proofs.Orders.{admissible, rest-passes, passes-call, matrix-passes, matrix-inside, sized}
@@ -28,14 +28,10 @@ use Rattle.cells.proofs.Reading.{states-small}
 use Rattle.characters.proofs.Calling.{given-all}
 use Rattle.tables.specs.Tables.{TableLong}
 use Rattle.entries.specs.Entries.{all_entries}
-use Rattle.corrections.specs.declared.Count.{Count}
-use Rattle.corrections.specs.declared.Count.TheVariants as count
 use Rattle.table_corrections.specs.TableCorrections.{CorrectableIn, CorrectsIn}
-use Rattle.tallies.specs.declared.Length.{Length}
-use Rattle.tallies.specs.declared.Length.TheVariants as length'
 use Rattle.tallies.specs.Tallies.{Totals, SumsOr}
-use Rattle.histories.specs.Kept.{Table, table_slices, NoTaxon, correction_checks, correct_checks, Corrects, length_checks, HasLengths}
-use Rattle.kept.specs.Steps.{Wanted}
+use Rattle.histories.specs.Kept.{Table, three, table_slices, NoTaxon, correction_checks, correct_checks, Corrects, length_checks, HasLengths}
+use Rattle.kept.specs.Steps.{AdmitsTable, Wanted}
 
 -- ---- the slices
 
@@ -71,59 +67,64 @@ refuses_past (c ∷ cs) ds es r h (k, p) = inr (k, refuses_past cs ds es r h p)
 
 -- ---- calls about all characters
 
-module _ (n c : ℕ) (tree matrix : List ℕ) (T : Table) (L : InLimits n c) (told : Lent)
-    (t : Told 1 (lent_slices n c tree matrix (table_slices n c T)) told) where
-  pub matrix-refused : (r : Refusal) → AdmitsMatrix n c tree matrix told (Refused r) → Refuses (matrix_checks n c tree matrix (table_slices n c T)) r
-  matrix-refused r h = matrix-inside n c tree matrix (table_slices n c T) L r (h (lent_slices n c tree matrix (table_slices n c T)) t)
+-- what is told of the slices, and then by the checks, is what is told of the call
+pub table-admits : (n c : ℕ) (tree matrix : List ℕ) (a b d : ℕ) → InLimits n c → (told : Option ℕ)
+    → Told 1 (lent_slices n c tree matrix (three n c a b d)) told → (r : Result Rooted Refusal) → AdmitsMatrix n c tree matrix told r
+    → AdmitsTable n c tree matrix a b d r
+table-admits n c tree matrix a b d L told t (Ok q) A = (L, subst (Told 1 (lent_slices n c tree matrix (three n c a b d))) A.0 t, (refl, A.1, A.2))
+table-admits n c tree matrix a b d L told t (Err r) h =
+    matrix-inside n c tree matrix (three n c a b d) L r (h (lent_slices n c tree matrix (three n c a b d)) t)
 
-  module _ (ρ δ : ℕ) (A : AdmitsMatrix n c tree matrix told (Admitted ρ δ)) where
-    pub long-all : TableLong n c T.lows T.highs T.lengths
-    long-all = (table-long n c T [] (rest-passes n c tree matrix (table_slices n c T) L told t A.0)).0
+module _ (n c : ℕ) (tree matrix : List ℕ) (T : Table) (q : Rooted)
+    (A : AdmitsTable n c tree matrix (length T.lows) (length T.highs) (length T.lengths) (Ok q)) where
+  pub long-all : TableLong n c T.lows T.highs T.lengths
+  long-all = (table-long n c T [] (rest-passes n c tree matrix (table_slices n c T) A.0 None A.1 refl)).0
 
-    pub passes-all : Passes (matrix_checks n c tree matrix (table_slices n c T))
-    passes-all = matrix-passes n c tree matrix (table_slices n c T) L told t A.0 ρ δ A.1 A.2
+  pub passes-all : Passes (matrix_checks n c tree matrix (table_slices n c T))
+  passes-all = matrix-passes n c tree matrix (table_slices n c T) A.0 None A.1 refl q.root q.top A.2.1 A.2.2
 
-    -- the root and its descendant, under other names
-    module _ (ρ' δ' : ℕ) (p : ρ' ≡ ρ) (q : δ' ≡ δ) where
-      accepted' : Accepted n tree ρ' δ'
-      accepted' = rw p (rw q A.1)
+  -- the root and its descendant, under other names
+  module _ (ρ δ : ℕ) (e : ρ ≡ q.root) (d : δ ≡ q.top) where
+    accepted' : Accepted n tree ρ δ
+    accepted' = rw e (rw d A.2.1)
 
-      pub totals : Totals n c ρ' δ' matrix T.lows T.highs T.lengths
-      totals =
-          record {
-            lists = record { least = L.least; most = L.most; few = L.few; long = long-all };
-            root = (accepted'.is_tree.some, accepted'.is_tree.taxon);
-            inner = δ-inner whole;
-            last = omega (arith, δ-most whole, (sized n c tree matrix (table_slices n c T) L told t A.0).nodes);
-            rows = ((admissible n c tree matrix (table_slices n c T) L told t).exact A.0).1;
-            states = λ j a b. (given-all n c tree matrix (table_slices n c T) L told t ρ δ A).cells.small j ρ' a b accepted'.is_tree.some
-                accepted'.is_tree.taxon;
-          }
-        where
-          whole : Tree
-          whole = record { n = n; tree = tree; ρ = ρ'; δ = δ'; is_tree = accepted'.is_tree }
+    pub totals : Totals n c ρ δ matrix T.lows T.highs T.lengths
+    totals =
+        record {
+          lists = record { least = A.0.least; most = A.0.most; few = A.0.few; long = long-all };
+          root = (accepted'.is_tree.some, accepted'.is_tree.taxon);
+          inner = δ-inner whole;
+          last = omega (arith, δ-most whole, (sized n c tree matrix (table_slices n c T) A.0 None A.1 refl).nodes);
+          rows = ((admissible n c tree matrix (table_slices n c T) A.0 None A.1).exact refl).1;
+          states = λ j a b. (given-all n c tree matrix (table_slices n c T) A.0 None A.1 q A.2).cells.small j ρ a b accepted'.is_tree.some
+              accepted'.is_tree.taxon;
+        }
+      where
+        whole : Tree
+        whole = record { n = n; tree = tree; ρ = ρ; δ = δ; is_tree = accepted'.is_tree }
 
-      pub has-lengths : (r : Length) → SumsOr n c ρ' δ' matrix T.lows T.highs T.lengths r → HasLengths n c tree matrix T r
-      has-lengths (length'.Length l) (P, I) =
-          record {
-            passes = passes_append (matrix_checks n c tree matrix (table_slices n c T)) (all_entries n c T.lows T.highs T.lengths ∷ []) passes-all P;
-            ρ = ρ';
-            δ = δ';
-            accepted = accepted';
-            total = I tree;
-          }
-      has-lengths (length'.Refused r) h =
-          refuses_after (matrix_checks n c tree matrix (table_slices n c T)) (all_entries n c T.lows T.highs T.lengths ∷ []) r passes-all h
+    pub has-lengths : (r : Result ℕ Refusal) → SumsOr n c ρ δ matrix T.lows T.highs T.lengths r → HasLengths n c tree matrix T r
+    has-lengths (Ok l) (P, I) =
+        record {
+          passes = passes_append (matrix_checks n c tree matrix (table_slices n c T)) (all_entries n c T.lows T.highs T.lengths ∷ []) passes-all P;
+          ρ = ρ;
+          δ = δ;
+          accepted = accepted';
+          total = I tree;
+        }
+    has-lengths (Err r) h =
+        refuses_after (matrix_checks n c tree matrix (table_slices n c T)) (all_entries n c T.lows T.highs T.lengths ∷ []) r passes-all h
 
-  pub length-refused : (r : Refusal) → AdmitsMatrix n c tree matrix told (Refused r) → Refuses (length_checks n c tree matrix T) r
-  length-refused r h =
-      refuses_before (matrix_checks n c tree matrix (table_slices n c T)) (all_entries n c T.lows T.highs T.lengths ∷ []) r (matrix-refused r h)
+pub length-refused : (n c : ℕ) (tree matrix : List ℕ) (T : Table) (r : Refusal) → Refuses (matrix_checks n c tree matrix (table_slices n c T)) r
+    → Refuses (length_checks n c tree matrix T) r
+length-refused n c tree matrix T r h =
+    refuses_before (matrix_checks n c tree matrix (table_slices n c T)) (all_entries n c T.lows T.highs T.lengths ∷ []) r h
 
 -- ---- a correction
 
-module _ (n c t j s : ℕ) (tree matrix : List ℕ) (T : Table) (L : InLimits n c) (told : Lent)
+module _ (n c t j s : ℕ) (tree matrix : List ℕ) (T : Table) (L : InLimits n c) (told : Option ℕ)
     (m : Told 1 (lent_slices n c tree matrix (table_slices n c T)) told) (w : ℕ) (W : Wanted n t j w) where
-  pub correct_refused : (r : Refusal) → AdmitsCharacter n c w tree matrix told (Refused r) → Refuses (correct_checks n c t j s tree matrix T) r
+  pub correct_refused : (r : Refusal) → AdmitsCharacter n c w tree matrix told (Err r) → Refuses (correct_checks n c t j s tree matrix T) r
   correct_refused r h =
       inr (
         clear_at 1 0 (Outside n c) (not_outside n c L),
@@ -156,15 +157,15 @@ module _ (n c t j s : ℕ) (tree matrix : List ℕ) (T : Table) (L : InLimits n 
       cells-refused (yes p) (yes q) h =
           in_cells (W.same p q) p q (subst (λ x. Refuses (cell_checks n c x matrix) r) (W.same p q) h)
 
-  module _ (ρ δ : ℕ) (A : AdmitsCharacter n c w tree matrix told (Admitted ρ δ)) where
+  module _ (q : Rooted) (A : AdmitsCharacter n c w tree matrix told (Ok q)) where
     -- a character is looked at, so there is the taxon
     taxon : (1 ≤ t) × (t ≤ n)
     taxon = go (dec_le 1 t) (dec_le t n)
       where
         go : Dec (1 ≤ t) → Dec (t ≤ n) → (1 ≤ t) × (t ≤ n)
-        go (yes p) (yes q) = (p, q)
+        go (yes p) (yes l) = (p, l)
         go (no p) d = absurd (omega (arith, W.none (inl (omega arith)), A.2.some))
-        go (yes p) (no q) = absurd (omega (arith, W.none (inr (omega arith)), A.2.some))
+        go (yes p) (no l) = absurd (omega (arith, W.none (inr (omega arith)), A.2.some))
 
     this : w ≡ j
     this = W.same taxon.0 taxon.1
@@ -177,8 +178,8 @@ module _ (n c t j s : ℕ) (tree matrix : List ℕ) (T : Table) (L : InLimits n 
         record {
           cell =
               record {
-                ρ = ρ;
-                δ = δ;
+                ρ = q.root;
+                δ = q.top;
                 sized = sized n c tree matrix (table_slices n c T) L told m A.0;
                 accepted = A.1;
                 taxon = taxon;
@@ -194,11 +195,11 @@ module _ (n c t j s : ℕ) (tree matrix : List ℕ) (T : Table) (L : InLimits n 
     late : (es : List {1} Check) (r : Refusal) → Refuses es r
         → Refuses (at 1 0 (Outside n c) ∷ slices 1 (lent_slices n c tree matrix (table_slices n c T)) ++ (tree_faults n tree ++ es)) r
     late es r h =
-        let (k, P) = passes-call n c tree matrix (table_slices n c T) L told m [] A.0 ρ δ A.1 tt in
+        let (k, P) = passes-call n c tree matrix (table_slices n c T) L told m [] A.0 q.root q.top A.1 tt in
         inr (
           k,
           refuses_past (slices 1 (lent_slices n c tree matrix (table_slices n c T))) (tree_faults n tree ++ []) (tree_faults n tree ++ es) r
-              (refuses_after (tree_faults n tree) es r (accepted-passes n tree ρ δ A.1) h) P,
+              (refuses_after (tree_faults n tree) es r (accepted-passes n tree q.root q.top A.1) h) P,
         )
 
     -- 8 and 7 do not apply
@@ -221,12 +222,12 @@ module _ (n c t j s : ℕ) (tree matrix : List ℕ) (T : Table) (L : InLimits n 
             → ◌≡◌ {A = Table} (record { lows = x'; highs = y'; lengths = z' }) (record { lows = x; highs = y; lengths = z })
         made a b d = cc
 
-    pub corrects : (matrix' : List ℕ) (T' : Table) (r : Count)
+    pub corrects : (matrix' : List ℕ) (T' : Table) (r : Result ℕ Refusal)
         → CorrectsIn n c t j s tree matrix T.lows T.highs T.lengths matrix' T'.lows T'.highs T'.lengths r
         → Corrects n c t j s tree matrix T matrix' T' r
-    corrects matrix' T' (count.Rewritten k) C =
+    corrects matrix' T' (Ok k) C =
         record {
-          passes = passes-call n c tree matrix (table_slices n c T) L told m (correction_checks n c t j s tree matrix T) A.0 ρ δ A.1
+          passes = passes-call n c tree matrix (table_slices n c T) L told m (correction_checks n c t j s tree matrix T) A.0 q.root q.top A.1
               (clear_8, (clear_7, C.here.passes));
           cell = C.here.mended.cell;
           count = C.here.count;
@@ -234,5 +235,5 @@ module _ (n c t j s : ℕ) (tree matrix : List ℕ) (T : Table) (L : InLimits n 
           others = C.others;
           path = C.here.mended.path;
         }
-    corrects matrix' T' (count.Refused r) (h, e, a, b, d) =
+    corrects matrix' T' (Err r) (h, e, a, b, d) =
         (late (correction_checks n c t j s tree matrix T) r (inr (clear_8, inr (clear_7, h))), e, same-table T' a b d)

@@ -3,14 +3,10 @@
 
 ghost use Rattle.std.specs.Prelude.{ℕ, ◌≤◌};
 ghost use Rattle.histories.specs.Kept.{Builds, Corrects, HasLengths};
-ghost use Rattle.kept.specs.Steps.{LendsTable, Wanted};
+ghost use Rattle.kept.specs.Steps.{LendsTable, AdmitsTable, Wanted};
 
-use checks::Admission;
-use corrections::Count;
-use histories::Built;
-use limits::Lent;
-use refusals::{Refusal, wide};
-use tallies::Length;
+use refusals::{Reason, Refusal};
+use trees::Rooted;
 
 // The three slices of the table, before the others: which is the first that has not (n - 2) c entries.
 pub fn lend_table(
@@ -19,8 +15,8 @@ pub fn lend_table(
     third: usize,
     fourth: usize,
     fifth: usize,
-    others: Lent,
-) -> Lent
+    others: Option<u32>,
+) -> Option<u32>
     requires { (3 ≤ n) × (n ≤ 256) × (c ≤ 512) }
     ensures { LendsTable n c third fourth fifth others result }
 {
@@ -28,6 +24,30 @@ pub fn lend_table(
     let from5 = limits::lend(5, fifth, asked, others);
     let from4 = limits::lend(4, fourth, asked, from5);
     limits::lend(3, third, asked, from4)
+}
+
+// The checks of a call about all characters, whose table has slices of these lengths: 1, 2, 3 to 6, and 7 in all cells.
+fn admit_table(
+    n: usize,
+    c: usize,
+    tree: &[u16],
+    matrix: &[u16],
+    third: usize,
+    fourth: usize,
+    fifth: usize,
+) -> Result<Rooted, Refusal>
+    ensures { AdmitsTable n c tree.now matrix.now third fourth fifth result }
+{
+    if limits::outside(n, c) {
+        return Err(Refusal {
+            reason: Reason::Limits,
+            place: 0,
+        });
+    }
+    let from3 = lend_table(n, c, third, fourth, fifth, None);
+    let from2 = limits::lend(2, matrix.len(), n * c, from3);
+    let from1 = limits::lend(1, tree.len(), 2 * n - 2, from2);
+    checks::admit_matrix(n, c, tree, matrix, from1)
 }
 
 // ---- build
@@ -41,38 +61,16 @@ pub fn build(
     lows: &mut [u16],
     highs: &mut [u16],
     lengths: &mut [u32],
-) -> Built
+) -> Result<(), Refusal>
     ensures { Builds n c tree.now matrix.now
         (record { lows = lows.old; highs = highs.old; lengths = lengths.old })
         (record { lows = lows.new; highs = highs.new; lengths = lengths.new }) result }
 {
-    if limits::outside(n, c) {
-        return Built::Refused(Refusal {
-            number: 1,
-            place: 0,
-        });
-    }
-    let from3 = lend_table(n, c, lows.len(), highs.len(), lengths.len(), Lent::Exact);
-    let from2 = limits::lend(2, matrix.len(), n * c, from3);
-    let from1 = limits::lend(1, tree.len(), 2 * n - 2, from2);
-    let admission = checks::admit_matrix(n, c, tree, matrix, from1);
-    match admission {
-        Admission::Refused(refusal) => Built::Refused(refusal),
-        Admission::Admitted(root, top) => {
-            tables::fill_table(
-                n,
-                c,
-                wide(root),
-                wide(top),
-                tree,
-                matrix,
-                lows,
-                highs,
-                lengths,
-            );
-            Built::Done
-        }
-    }
+    let rooted = admit_table(n, c, tree, matrix, lows.len(), highs.len(), lengths.len())?;
+    let root = usize::from(rooted.root);
+    let top = usize::from(rooted.top);
+    tables::fill_table(n, c, root, top, tree, matrix, lows, highs, lengths);
+    Ok(())
 }
 
 // ---- correct one cell
@@ -81,13 +79,7 @@ pub fn build(
 fn wanted(n: usize, taxon: usize, character: usize) -> usize
     ensures { Wanted n taxon character result }
 {
-    if taxon < 1 {
-        return 0;
-    }
-    if n < taxon {
-        return 0;
-    }
-    character
+    if taxon < 1 || n < taxon { 0 } else { character }
 }
 
 // Corrects one cell: the cell is written and, for its character, the entries of the interior nodes between its taxon and the root, and nothing else.
@@ -104,29 +96,26 @@ pub fn correct(
     lows: &mut [u16],
     highs: &mut [u16],
     lengths: &mut [u32],
-) -> Count
+) -> Result<u32, Refusal>
     ensures { Corrects n c taxon character state tree.now matrix.old
         (record { lows = lows.old; highs = highs.old; lengths = lengths.old })
         matrix.new
         (record { lows = lows.new; highs = highs.new; lengths = lengths.new }) result }
 {
     if limits::outside(n, c) {
-        return Count::Refused(Refusal {
-            number: 1,
+        return Err(Refusal {
+            reason: Reason::Limits,
             place: 0,
         });
     }
-    let from3 = lend_table(n, c, lows.len(), highs.len(), lengths.len(), Lent::Exact);
+    let from3 = lend_table(n, c, lows.len(), highs.len(), lengths.len(), None);
     let from2 = limits::lend(2, matrix.len(), n * c, from3);
     let from1 = limits::lend(1, tree.len(), 2 * n - 2, from2);
     let looked = wanted(n, taxon, character);
-    let admission = checks::admit_character(n, c, looked, tree, matrix, from1);
-    match admission {
-        Admission::Refused(refusal) => Count::Refused(refusal),
-        Admission::Admitted(_, _) => table_corrections::correct_in(
-            n, c, taxon, character, state, tree, matrix, lows, highs, lengths,
-        ),
-    }
+    checks::admit_character(n, c, looked, tree, matrix, from1)?;
+    table_corrections::correct_in(
+        n, c, taxon, character, state, tree, matrix, lows, highs, lengths,
+    )
 }
 
 // ---- the kept tree length
@@ -140,31 +129,12 @@ pub fn kept_length(
     lows: &[u16],
     highs: &[u16],
     lengths: &[u32],
-) -> Length
+) -> Result<u32, Refusal>
     ensures { HasLengths n c tree.now matrix.now
         (record { lows = lows.now; highs = highs.now; lengths = lengths.now }) result }
 {
-    if limits::outside(n, c) {
-        return Length::Refused(Refusal {
-            number: 1,
-            place: 0,
-        });
-    }
-    let from3 = lend_table(n, c, lows.len(), highs.len(), lengths.len(), Lent::Exact);
-    let from2 = limits::lend(2, matrix.len(), n * c, from3);
-    let from1 = limits::lend(1, tree.len(), 2 * n - 2, from2);
-    let admission = checks::admit_matrix(n, c, tree, matrix, from1);
-    match admission {
-        Admission::Refused(refusal) => Length::Refused(refusal),
-        Admission::Admitted(root, top) => tallies::sum_or(
-            n,
-            c,
-            wide(root),
-            wide(top),
-            matrix,
-            lows,
-            highs,
-            lengths,
-        ),
-    }
+    let rooted = admit_table(n, c, tree, matrix, lows.len(), highs.len(), lengths.len())?;
+    let root = usize::from(rooted.root);
+    let top = usize::from(rooted.top);
+    tallies::sum_or(n, c, root, top, matrix, lows, highs, lengths)
 }

@@ -4,10 +4,7 @@
 ghost use Rattle.std.specs.Prelude.{ℕ};
 ghost use Rattle.histories.specs.Kept.{AnswersKept};
 
-use checks::Admission;
-use limits::Lent;
-use refusals::Refusal;
-use tallies::Length;
+use refusals::{Reason, Refusal};
 
 // One character's length and final ranges, from the kept table. Refusals, in this order: 1, 2, 3 to 6, 8, 7 in the character's cells, and 10 in its entries.
 // A refusal changes nothing.
@@ -22,42 +19,36 @@ pub fn kept_character(
     lengths: &[u32],
     final_lows: &mut [u16],
     final_highs: &mut [u16],
-) -> Length
+) -> Result<u32, Refusal>
     ensures { AnswersKept n c character tree.now matrix.now
         (record { lows = lows.now; highs = highs.now; lengths = lengths.now })
         final_lows.old final_highs.old final_lows.new final_highs.new result }
 {
     if limits::outside(n, c) {
-        return Length::Refused(Refusal {
-            number: 1,
+        return Err(Refusal {
+            reason: Reason::Limits,
             place: 0,
         });
     }
-    let from7 = limits::lend(7, final_highs.len(), n - 2, Lent::Exact);
+    let from7 = limits::lend(7, final_highs.len(), n - 2, None);
     let from6 = limits::lend(6, final_lows.len(), n - 2, from7);
     let from3 = kept::lend_table(n, c, lows.len(), highs.len(), lengths.len(), from6);
     let from2 = limits::lend(2, matrix.len(), n * c, from3);
     let from1 = limits::lend(1, tree.len(), 2 * n - 2, from2);
-    let admission = checks::admit_character(n, c, character, tree, matrix, from1);
-    match admission {
-        Admission::Refused(refusal) => Length::Refused(refusal),
-        Admission::Admitted(root, top) => {
-            let start = (character - 1) * (n - 2);
-            let end = start + (n - 2);
-            readings::read_or(
-                n,
-                c,
-                character,
-                root,
-                top,
-                tree,
-                matrix,
-                &lows[start..end],
-                &highs[start..end],
-                &lengths[start..end],
-                final_lows,
-                final_highs,
-            )
-        }
-    }
+    let rooted = checks::admit_character(n, c, character, tree, matrix, from1)?;
+    let start = (character - 1) * (n - 2);
+    let end = start + (n - 2);
+    readings::read_or(
+        n,
+        c,
+        character,
+        rooted,
+        tree,
+        matrix,
+        &lows[start..end],
+        &highs[start..end],
+        &lengths[start..end],
+        final_lows,
+        final_highs,
+    )
 }

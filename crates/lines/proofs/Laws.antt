@@ -80,10 +80,10 @@ alike_end v out from w out' put next A e =
 -- what is told of a line says whether it is in form
 pub line-good : (v : Numbers) (next : ℕ) → Some next ≡ told_line v → v ≡ all (numbers_of v) next
 line-good (all vs n) next e = cc
-line-good (cut vs) next e = absurd (let z : ◌≡◌ {A = ℕ} 0 1 = cc in omega arith)
+line-good (cut vs) next e = absurd cc
 
 pub line_bad : (v : Numbers) → None ≡ told_line v → v ≡ cut (numbers_of v)
-line_bad (all vs n) e = absurd (let z : ◌≡◌ {A = ℕ} 0 1 = cc in omega arith)
+line_bad (all vs n) e = absurd cc
 line_bad (cut vs) e = refl
 
 -- ---- the rows
@@ -164,8 +164,8 @@ rows_in (wrong l vs) = []
 pub rows-good : (t : Table) (next : ℕ) → Ok next ≡ told_rows t → t ≡ whole (rows_in t) next
 unfolding rows_in
 rows-good (whole rs n) next e = cc
-rows-good (wrong l vs) next e = absurd (let z : ◌≡◌ {A = ℕ} 0 1 = cc in omega arith)
+rows-good (wrong l vs) next e = absurd cc
 
 pub rows-wrong : (t : Table) (l : ℕ) → Err l ≡ told_rows t → t ≡ wrong l (cells_of t)
-rows-wrong (whole rs n) l e = absurd (let z : ◌≡◌ {A = ℕ} 0 1 = cc in omega arith)
+rows-wrong (whole rs n) l e = absurd cc
 rows-wrong (wrong m vs) l e = cc

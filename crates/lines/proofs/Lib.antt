@@ -1,4 +1,4 @@
--- How lines and rows are read step by step; how far they reach; and that reading and writing them undo each other.
+-- How lines and rows are read step by step; how far they reach; that reading and writing them undo each other; and what an answer of one says.
 -- Assumes nothing.
 pub mod Laws
 pub mod Reach

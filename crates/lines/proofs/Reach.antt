@@ -31,7 +31,7 @@ reach-before :
     ((ws : List ℕ) (n : ℕ) → rest ≡ all ws n → (length ws ≡ k) × (m + 2 * k ≤ n) × (n ≤ len)) →
     before v rest ≡ all vs next → (length vs ≡ suc k) × (m + 2 * k ≤ next) × (next ≤ len)
 unfolding before
-reach-before v (cut ws) vs next m k len f e = absurd (let z : ◌≡◌ {A = ℕ} 0 1 = cc in omega arith)
+reach-before v (cut ws) vs next m k len f e = absurd cc
 reach-before v (all ws n) vs next m k len f e =
     let g = f ws n refl in
     let same : n ≡ next = cc in
@@ -44,7 +44,7 @@ reach-then :
     ((m : ℕ) → m ≤ len → (ws : List ℕ) (n : ℕ) → f m ≡ all ws n → (length ws ≡ k) × (m + 2 * k ≤ n) × (n ≤ len)) →
     then got f ≡ all vs next → (length vs ≡ suc k) × (i + 2 * suc k ≤ next) × (next ≤ len)
 unfolding then
-reach-then None f vs next i k len item more e = absurd (let z : ◌≡◌ {A = ℕ} 0 1 = cc in omega arith)
+reach-then None f vs next i k len item more e = absurd cc
 reach-then (Some p) f vs next i k len item more e =
     let here = item p.value p.next refl in
     let g = reach-before p.value (f p.next) vs next p.next k len (more p.next here.1) e in
@@ -67,7 +67,7 @@ values_reach text (suc k) i h vs next e =
 
 only_line : (b : Bool) (v : Numbers) (vs : List ℕ) (next : ℕ) → cond b v (cut []) ≡ all vs next → v ≡ all vs next
 only_line true v vs next e = e
-only_line false v vs next e = absurd (let z : ◌≡◌ {A = ℕ} 0 1 = cc in omega arith)
+only_line false v vs next e = absurd cc
 
 pub line-reach :
     (text key : List ℕ) (k i : ℕ) → 0 < k → (vs : List ℕ) (next : ℕ) → line_at text key k i ≡ all vs next →
@@ -78,7 +78,7 @@ line-reach text key k i h vs next e =
 
 only_head : (b : Bool) (p : Option Parsed) (v next : ℕ) → cond b p None ≡ parsed v next → p ≡ parsed v next
 only_head true p v next e = e
-only_head false p v next e = absurd (let z : ◌≡◌ {A = ℕ} 0 1 = cc in omega arith)
+only_head false p v next e = absurd cc
 
 pub head_reach : (text key : List ℕ) (i v next : ℕ) → head_at text key i ≡ parsed v next → next ≤ length text
 head_reach text key i v next e =
@@ -91,7 +91,7 @@ reach-above :
     ((qs : List (List ℕ)) (n : ℕ) → rest ≡ whole qs n → (length (flatten qs) ≡ k * width) × (m + 2 * (k * width) ≤ n) × (n ≤ len)) →
     above row rest ≡ whole rs next → (length (flatten rs) ≡ suc k * width) × (m + 2 * (k * width) ≤ next) × (next ≤ len)
 unfolding above flatten
-reach-above row (wrong l vs) rs next m k width len h f e = absurd (let z : ◌≡◌ {A = ℕ} 0 1 = cc in omega arith)
+reach-above row (wrong l vs) rs next m k width len h f e = absurd cc
 reach-above row (whole qs n) rs next m k width len h f e =
     let g = f qs n refl in
     let same : n ≡ next = cc in
@@ -106,7 +106,7 @@ reach-rows :
     →
     then_rows got l f ≡ whole rs next → (length (flatten rs) ≡ suc k * width) × (i + 2 * (suc k * width) ≤ next) × (next ≤ len)
 unfolding then_rows
-reach-rows (cut vs) f l rs next i k width len line more e = absurd (let z : ◌≡◌ {A = ℕ} 0 1 = cc in omega arith)
+reach-rows (cut vs) f l rs next i k width len line more e = absurd cc
 reach-rows (all vs m) f l rs next i k width len line more e =
     let here = line vs m refl in
     let g = reach-above vs (f m) rs next m k width len here.0 (more m here.2) e in

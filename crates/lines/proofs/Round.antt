@@ -56,7 +56,7 @@ back_before :
     drop i text ≡ decimal v ++ mark_of (suc k) ∷ drop m text →
     before v rest ≡ all vs next → Back text (suc k) i vs next
 unfolding before printed Fit
-back_before text v (cut ws) vs next i m k h f here e = absurd (let z : ◌≡◌ {A = ℕ} 0 1 = cc in omega arith)
+back_before text v (cut ws) vs next i m k h f here e = absurd cc
 back_before text v (all ws n) vs next i m k h f here e =
     let g = f ws n refl in
     let same : n ≡ next = cc in
@@ -78,7 +78,7 @@ back_then :
     ((m : ℕ) (ws : List ℕ) (n : ℕ) → f m ≡ all ws n → Back text k m ws n) →
     then got f ≡ all vs next → Back text (suc k) i vs next
 unfolding then
-back_then text None f vs next i k item more e = absurd (let z : ◌≡◌ {A = ℕ} 0 1 = cc in omega arith)
+back_then text None f vs next i k item more e = absurd cc
 back_then text (Some p) f vs next i k item more e =
     let (fits, here) = item p.value p.next refl in
     back_before text p.value (f p.next) vs next i p.next k fits (more p.next) here e
@@ -103,7 +103,7 @@ values_back text (suc k) i vs next e =
 
 only_line : (b : Bool) (v : Numbers) (vs : List ℕ) (next : ℕ) → cond b v (cut []) ≡ all vs next → (b ≡ true) × (v ≡ all vs next)
 only_line true v vs next e = (refl, e)
-only_line false v vs next e = absurd (let z : ◌≡◌ {A = ℕ} 0 1 = cc in omega arith)
+only_line false v vs next e = absurd cc
 
 -- a line in print, with what stands after it
 line_print : (key vs s : List ℕ) → 0 < length vs → key ++ (printed vs ++ s) ≡ line key vs ++ s
@@ -155,7 +155,7 @@ line_read text key i vs s some h e =
 
 only_head : (b : Bool) (p : Option Parsed) (v next : ℕ) → cond b p None ≡ parsed v next → (b ≡ true) × (p ≡ parsed v next)
 only_head true p v next e = (refl, e)
-only_head false p v next e = absurd (let z : ◌≡◌ {A = ℕ} 0 1 = cc in omega arith)
+only_head false p v next e = absurd cc
 
 head_print : (key : List ℕ) (v : ℕ) (s : List ℕ) → key ++ (decimal v ++ 10 ∷ s) ≡ line key (v ∷ []) ++ s
 unfolding commas continued
@@ -223,7 +223,7 @@ back_above :
     ((qs : List (List ℕ)) (n : ℕ) → rest ≡ whole qs n → RowsBack text width k m qs n) →
     above row rest ≡ whole rs next → RowsBack text width (suc k) i rs next
 unfolding above
-back_above text width k i m row (wrong l vs) rs next here f e = absurd (let z : ◌≡◌ {A = ℕ} 0 1 = cc in omega arith)
+back_above text width k i m row (wrong l vs) rs next here f e = absurd cc
 back_above text width k i m row (whole qs n) rs next here f e =
     let same : n ≡ next = cc in
     let list : row ∷ qs ≡ rs = cc in
@@ -236,7 +236,7 @@ back_rows :
     ((m : ℕ) (qs : List (List ℕ)) (n : ℕ) → f m ≡ whole qs n → RowsBack text width k m qs n) →
     then_rows got l f ≡ whole rs next → RowsBack text width (suc k) i rs next
 unfolding then_rows
-back_rows text width k i (cut vs) l f rs next line more e = absurd (let z : ◌≡◌ {A = ℕ} 0 1 = cc in omega arith)
+back_rows text width k i (cut vs) l f rs next line more e = absurd cc
 back_rows text width k i (all vs m) l f rs next line more e = back_above text width k i m vs (f m) rs next (line vs m refl) (more m) e
 
 -- what is read as rows is those rows in print
@@ -315,7 +315,7 @@ cut_later text width k l i m j row g here C =
 
 above-wrong : (row : List ℕ) (rest : Table) (m : ℕ) (us : List ℕ) → above row rest ≡ wrong m us → (vs : List ℕ) × (rest ≡ wrong m vs)
 unfolding above
-above-wrong row (whole rs next) m us e = absurd (let z : ◌≡◌ {A = ℕ} 0 1 = cc in omega arith)
+above-wrong row (whole rs next) m us e = absurd cc
 above-wrong row (wrong l vs) m us e = (vs, let z : l ≡ m = cc in ap (λ n. wrong n vs) z)
 
 cut_case :
@@ -332,7 +332,7 @@ cut_case text width k l i m (all row j) us g line more e =
 pub rows_cut : (text : List ℕ) (width : ℕ) → 0 < width → (k l i m : ℕ) (vs : List ℕ) → rows_at text width k l i ≡ wrong m vs
     → RowsCut text width k l i m
 unfolding rows_at
-rows_cut text width w zero l i m vs e = absurd (let z : ◌≡◌ {A = ℕ} 0 1 = cc in omega arith)
+rows_cut text width w zero l i m vs e = absurd cc
 rows_cut text width w (suc k) l i m vs e =
     cut_case text width k l i m (line_at text row_key width i) vs refl
     (λ us j g. line_back text row_key width i us j w row_positive g)

@@ -8,6 +8,7 @@ ghost use Rattle.lines.specs.Lines.{mark_of, values_at, head_at, line_at, rows_a
 use numbers::Parsed;
 
 // The byte after a number with which `left` numbers are left: a comma, and LF after the last.
+#[tactic(auto, unfolding(crate::specs::Lines::mark_of))]
 fn mark(left: usize) -> u8
     ensures { result ≡ mark_of left }
 {

@@ -57,10 +57,6 @@ module _ (n c j ρ δ : ℕ) (tree matrix lows highs lengths final_lows final_hi
 
 -- the same root and descendant, under other names
 module _ (n c j ρ δ ρ' δ' : ℕ) (p : ρ' ≡ ρ) (q : δ' ≡ δ) (tree matrix lows highs lengths : List ℕ) where
-  pub wider : (final_lows final_highs : List ℕ) → Clean n c j ρ δ tree matrix lows highs lengths final_lows final_highs
-      → Clean n c j ρ' δ' tree matrix lows highs lengths final_lows final_highs
-  wider a b G = rw p (rw q G)
-
   pub is_read : (a b : List ℕ) (l : ℕ) → IsLength n c j ρ' δ' matrix lows highs lengths l → Finals n c j ρ' δ' tree matrix lows highs a b
       → IsRead n c j ρ δ tree matrix lows highs lengths a b l
   is_read a b l L F =

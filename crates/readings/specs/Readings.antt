@@ -1,14 +1,14 @@
 -- What is read of one kept character: its final ranges and its length, by the paper's steps over its entries as they stand.
 -- Assumes nothing.
-use Rattle.std.specs.Prelude.{◌≡◌, List, [], ◌∷◌, ℕ, ◌-◌, ◌*◌, ◌≤◌, length}
+use Rattle.std.specs.Prelude.{◌≡◌, List, [], ◌∷◌, ℕ, ◌-◌, ◌*◌, ◌≤◌, length, Result, Ok, Err}
 use Rattle.parsimony.specs.Table.{Accepted}
 use Rattle.parsimony.specs.Matrix.{state_of}
+use Rattle.refusals.specs.declared.Refusal.{Refusal}
 use Rattle.refusals.specs.Search.{Never}
 use Rattle.refusals.specs.Checks.{Refuses, Passes}
 use Rattle.trees.specs.Answers.{Sized}
 use Rattle.descents.specs.Descents.{Finals}
 use Rattle.entries.specs.Entries.{BadAt, character_entries, OneCharacter}
-use Rattle.tallies.specs.declared.Length.{Length}
 use Rattle.tallies.specs.Tallies.{length_here}
 
 -- the final ranges and the length
@@ -17,10 +17,10 @@ pub record IsRead (n c j ρ δ : ℕ) (tree matrix lows highs lengths lows' high
   pub finals : Finals n c j ρ δ tree matrix lows highs lows' highs'
 
 -- no entry is bad, and they are told; or 10 is, and nothing is changed
-abbrev pub ReadsOr : (n c j ρ δ : ℕ) (tree matrix lows highs lengths lows₀ highs₀ lows' highs' : List ℕ) → Length → Type 0
-ReadsOr n c j ρ δ tree matrix lows highs lengths lows₀ highs₀ lows' highs' (Length.Length l) =
+abbrev pub ReadsOr : (n c j ρ δ : ℕ) (tree matrix lows highs lengths lows₀ highs₀ lows' highs' : List ℕ) → Result ℕ Refusal → Type 0
+ReadsOr n c j ρ δ tree matrix lows highs lengths lows₀ highs₀ lows' highs' (Ok l) =
     Passes (character_entries n lows highs lengths ∷ []) × IsRead n c j ρ δ tree matrix lows highs lengths lows' highs' l
-ReadsOr n c j ρ δ tree matrix lows highs lengths lows₀ highs₀ lows' highs' (Length.Refused r) =
+ReadsOr n c j ρ δ tree matrix lows highs lengths lows₀ highs₀ lows' highs' (Err r) =
     Refuses (character_entries n lows highs lengths ∷ []) r × (lows' ≡ lows₀) × (highs' ≡ highs₀)
 
 -- ---- what is given

@@ -3,16 +3,15 @@
 
 ghost use Rattle.readings.specs.Readings.{Readable, Clean, IsRead, ReadsOr};
 
-use refusals::{Found, Refusal, wide};
-use tallies::Length;
+use refusals::{Reason, Refusal};
+use trees::Rooted;
 
 // The final ranges go into two slices; the answer is the length.
 fn read_entries(
     n: usize,
     c: usize,
     character: usize,
-    root: u16,
-    top: u16,
+    rooted: Rooted,
     tree: &[u16],
     matrix: &[u16],
     lows: &[u16],
@@ -21,17 +20,14 @@ fn read_entries(
     final_lows: &mut [u16],
     final_highs: &mut [u16],
 ) -> u32
-    requires { Clean n c character root top tree.now matrix.now lows.now highs.now lengths.now final_lows.old final_highs.old }
-    ensures { IsRead n c character root top tree.now matrix.now lows.now highs.now lengths.now
+    requires { Clean n c character rooted.root rooted.top tree.now matrix.now lows.now highs.now lengths.now final_lows.old final_highs.old }
+    ensures { IsRead n c character rooted.root rooted.top tree.now matrix.now lows.now highs.now lengths.now
         final_lows.new final_highs.new result }
 {
-    let mut left = [0u16; 254];
-    let mut right = [0u16; 254];
-    let mut order = [0u16; 254];
-    shapes::descendants(n, tree, &mut left, &mut right);
-    orders::order(n, top, &left, &right, &mut order);
-    let root = wide(root);
-    let top = wide(top);
+    let shape = shapes::descendants(n, tree);
+    let order = orders::order(n, rooted.top, &shape);
+    let root = usize::from(rooted.root);
+    let top = usize::from(rooted.top);
     descents::final_ranges(
         n,
         c,
@@ -40,8 +36,7 @@ fn read_entries(
         top,
         tree,
         matrix,
-        &left,
-        &right,
+        &shape,
         &order,
         lows,
         highs,
@@ -56,8 +51,7 @@ pub fn read_or(
     n: usize,
     c: usize,
     character: usize,
-    root: u16,
-    top: u16,
+    rooted: Rooted,
     tree: &[u16],
     matrix: &[u16],
     lows: &[u16],
@@ -65,23 +59,21 @@ pub fn read_or(
     lengths: &[u32],
     final_lows: &mut [u16],
     final_highs: &mut [u16],
-) -> Length
-    requires { Readable n c character root top tree.now matrix.now lows.now highs.now lengths.now final_lows.old final_highs.old }
-    ensures { ReadsOr n c character root top tree.now matrix.now lows.now highs.now lengths.now
+) -> Result<u32, Refusal>
+    requires { Readable n c character rooted.root rooted.top tree.now matrix.now lows.now highs.now lengths.now final_lows.old final_highs.old }
+    ensures { ReadsOr n c character rooted.root rooted.top tree.now matrix.now lows.now highs.now lengths.now
         final_lows.old final_highs.old final_lows.new final_highs.new result }
 {
-    let bad = entries::bad_node(n, lows, highs, lengths);
-    match bad {
-        Found::At(node) => Length::Refused(Refusal {
-            number: 10,
+    match entries::bad_node(n, lows, highs, lengths) {
+        Some(node) => Err(Refusal {
+            reason: Reason::Kept,
             place: node as u32,
         }),
-        Found::Nowhere => Length::Length(read_entries(
+        None => Ok(read_entries(
             n,
             c,
             character,
-            root,
-            top,
+            rooted,
             tree,
             matrix,
             lows,

@@ -6,30 +6,31 @@ use mathlib.Core.List.{List}
 use Prim.Native.Nat.{ℕ, zero, suc, ◌+◌, ◌-◌, ◌*◌, ◌≤◌, ◌<◌}
 use native.Mathlib.Decide.{dec_le}
 use native.Mathlib.Omega.{arith}
-use lib.ListN.{length, get_or, get_or-append}
-use lib.Seq.{sets-eq}
+use lib.ListN.{length, get_or, take, get_or-append}
+use lib.Seq.{sets-eq, length-take-le, get_or-take}
+use Rattle.std.proofs.lemmas.List.{get_or_past}
+use Rattle.std.proofs.lemmas.List.{get_or_past}
+use Rattle.std.specs.Prelude.{Option, Some, None}
 use Rattle.parsimony.specs.Table.{ancestor, climb, below}
 use Rattle.parsimony.specs.Character.{at_node}
 use Rattle.parsimony.proofs.Tables.Trees.{Tree, steps_below}
 use Rattle.refusals.specs.Search.{Finds}
-use Rattle.refusals.specs.declared.Found.{Found}
-use Rattle.refusals.specs.declared.Found.TheVariants.{At, Nowhere}
 use Rattle.paths.specs.Paths.{path_of, Pathable, IsPath}
 use Rattle.paths.proofs.Paths.{path-at, path-all, path-short}
 use Rattle.shapes.proofs.Subtrees.{ancestor_in}
 use Rattle.entries.specs.Entries.{BadBeside, Marks, Marked, BadMarked, Besides}
-use Rattle.repairs.specs.Repairs.{Correctable, HasPath, Looks}
+use Rattle.repairs.specs.Repairs.{Correctable, HasPath, Looks, Mends}
 
 -- a search for one thing finds another, where both hold of the same numbers
-pub finds_same : (P Q : ℕ → Type 0) (m : ℕ) → ((k : ℕ) → 1 ≤ k → k ≤ m → P k ↔ Q k) → (r : Found) → Finds P m r → Finds Q m r
-finds_same P Q m h (At k) F =
+pub finds_same : (P Q : ℕ → Type 0) (m : ℕ) → ((k : ℕ) → 1 ≤ k → k ≤ m → P k ↔ Q k) → (r : Option ℕ) → Finds P m r → Finds Q m r
+finds_same P Q m h (Some k) F =
     record {
       some = F.some;
       most = F.most;
       holds = (h k F.some F.most).0 F.holds;
       first = λ j p l q. F.first j p l ((h j p (omega (arith, F.most))).1 q);
     }
-finds_same P Q m h Nowhere F = λ k p l q. F k p l ((h k p l).1 q)
+finds_same P Q m h None F = λ k p l q. F k p l ((h k p l).1 q)
 
 module _ (n t count : ℕ) (tree path lows highs lengths : List ℕ) (S : Looks n t count tree path lows highs lengths) where
   abbrev T : Tree
@@ -48,15 +49,47 @@ module _ (n t count : ℕ) (tree path lows highs lengths : List ℕ) (S : Looks 
       go zero k = ancestor_in T k
       go (suc i) k = go i (ancestor tree k)
 
-  pub marks_of : (marks : List ℕ) → length marks ≡ 254 → ((i : ℕ) → get_or marks i 0 ≡ 0) → Marks n count path marks
-  marks_of marks long blank =
+  pub few : count ≤ 254
+  few = omega (arith, S.listed.counts, path-short T t, S.sized.nodes, S.sized.most)
+
+  marks_of : Marks n count path
+  marks_of =
       record {
-        few = omega (arith, S.listed.counts, path-short T t, S.sized.nodes, S.sized.most);
+        few = few;
         inner = λ i l.
             let (e, lo) = step i l in
             (omega arith, omega (arith, step-last i, S.sized.nodes, S.sized.most, S.sized.least));
-        long = long;
-        blank = blank;
+      }
+
+  -- the path alone, without the room behind it
+  abbrev here : List ℕ
+  here = take count path
+
+  -- there is the room: each node of the path is read, and 0 is no node
+  here-long : length here ≡ count
+  here-long = length-take-le count path (go (dec_le count (length path)))
+    where
+      go : Dec (count ≤ length path) → count ≤ length path
+      go (yes l) = l
+      go (no l) = absurd (omega (arith, step (length path) (omega arith), get_or_past path (length path) 0 (omega arith)))
+
+  pub marks-here : Marks n (length here) here
+  marks-here =
+      record {
+        few = omega (arith, here-long, few);
+        inner = λ i l.
+            let h : i < count = omega (arith, here-long) in
+            rw (get_or-take count path i 0 h) (marks_of.inner i h);
+      }
+
+  marked-here : (marks : List ℕ) → Marked n (length here) here marks → Marked n count path marks
+  marked-here marks M =
+      record {
+        long = M.long;
+        on = λ i l. subst (λ k. at_node n marks k ≡ 1) (get_or-take count path i 0 l) (M.on i (omega (arith, here-long)));
+        off = λ v lo h. M.off v lo (λ i l e.
+            let m : i < count = omega (arith, here-long) in
+            h i m (sym (get_or-take count path i 0 m) ∙ e));
       }
 
   pub besides : Besides n tree lows highs lengths
@@ -91,15 +124,20 @@ module _ (n t count : ℕ) (tree path lows highs lengths : List ℕ) (S : Looks 
         away lo h (no l) = omega arith
 
     -- what a search by the marks finds
-    pub found-beside : (r : Found) → Finds (BadMarked n tree marks lows highs lengths) (2 * n - 2) r
+    found-beside : (r : Option ℕ) → Finds (BadMarked n tree marks lows highs lengths) (2 * n - 2) r
         → Finds (BadBeside n t tree lows highs lengths) (2 * n - 2) r
     found-beside = finds_same (BadMarked n tree marks lows highs lengths) (BadBeside n t tree lows highs lengths) (2 * n - 2) beside_same
+
+  -- and by the marks of the path alone
+  pub found-here : (marks : List ℕ) → Marked n (length here) here marks → (r : Option ℕ)
+      → Finds (BadMarked n tree marks lows highs lengths) (2 * n - 2) r → Finds (BadBeside n t tree lows highs lengths) (2 * n - 2) r
+  found-here marks M = found-beside marks (marked-here marks M)
 
 -- ---- from the whole to the path
 
 module _ (n c t j : ℕ) (tree matrix lows highs lengths : List ℕ) (G : Correctable n c t j tree matrix lows highs lengths) where
-  pub pathable : (path : List ℕ) → length path ≡ 254 → Pathable n tree t path
-  pathable path long =
+  pub pathable : Pathable n tree t
+  pathable =
       record {
         sized = G.cell.sized;
         ρ = G.cell.ρ;
@@ -107,7 +145,6 @@ module _ (n c t j : ℕ) (tree matrix lows highs lengths : List ℕ) (G : Correc
         accepted = G.cell.accepted;
         some = G.cell.taxon.0;
         most = omega (arith, G.cell.taxon.1, G.cell.sized.nodes, G.cell.sized.least);
-        long = long;
       }
 
   module _ (before path : List ℕ) (count : ℕ) (long : length before ≡ 254) (P : IsPath n tree t before path count) where
@@ -129,5 +166,10 @@ module _ (n c t j : ℕ) (tree matrix lows highs lengths : List ℕ) (G : Correc
     looks =
         record { ρ = G.cell.ρ; δ = G.cell.δ; sized = G.cell.sized; accepted = G.cell.accepted; listed = has-path; lists = G.lists }
 
-    pub count-few : count ≤ 254
-    count-few = omega (arith, P.counts, path-short whole t, G.cell.sized.nodes, G.cell.sized.most)
+-- a path has few nodes
+pub path-few : (n c t j s count : ℕ) (tree path matrix lows highs lengths : List ℕ) → Mends n c t j s count tree path matrix lows highs lengths
+    → count ≤ 254
+path-few n c t j s count tree path matrix lows highs lengths M =
+    let C = M.given.cell in
+    let whole : Tree = record { n = n; tree = tree; ρ = C.ρ; δ = C.δ; is_tree = C.accepted.is_tree } in
+    omega (arith, M.listed.counts, path-short whole t, C.sized.nodes, C.sized.most)

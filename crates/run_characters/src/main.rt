@@ -28,15 +28,15 @@ impl Display for Index {
 // The line of an answer: the scores, or the refusal.
 fn put_answer(rt: &impl Print, name: &str, answer: Result<Scores, Refusal>) -> io::Result<()> {
     match answer {
-        Ok(scores) => print!(rt;
-            "{name} length={} m={} g={} ci={} ri={}\n",
+        Ok(scores) => println!(rt;
+            "{name} length={} m={} g={} ci={} ri={}",
             scores.length,
             scores.m,
             scores.g,
             Index(scores.ci),
             Index(scores.ri)
         ),
-        Err(refusal) => print!(rt; "{name} refused={refusal}\n"),
+        Err(refusal) => println!(rt; "{name} refused={refusal}"),
     }
 }
 
@@ -73,14 +73,14 @@ fn one_case(rt: &impl Print, cases: &mut Cases<'_>) -> io::Result<()> {
         states,
     );
     put_answer(rt, "one", one)?;
-    print!(rt;
-        "first lows{}\nfirst highs{}\nsubtree lengths{}\n",
+    println!(rt;
+        "first lows{}\nfirst highs{}\nsubtree lengths{}",
         List(first_lows),
         List(first_highs),
         List(subtree)
     )?;
-    print!(rt;
-        "final lows{}\nfinal highs{}\nstates{}\n",
+    println!(rt;
+        "final lows{}\nfinal highs{}\nstates{}",
         List(final_lows),
         List(final_highs),
         List(states)

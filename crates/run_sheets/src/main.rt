@@ -32,8 +32,8 @@ fn one_text(rt: &impl Print, input: &mut impl Read, header: &[u8; 18]) -> io::Re
     inputs::read_full(input, text)?;
     let answer = sheets::read_sheet(text, tree, matrix);
     put_answer(rt, answer)?;
-    print!(rt;
-        " tree={} matrix={}\n",
+    println!(rt;
+        " tree={} matrix={}",
         digest(tree, 1, 0),
         digest(matrix, 1, 0)
     )

@@ -7,8 +7,8 @@ use std::io;
 
 fn answer(rt: &impl Print, n: usize, tree: &[u16]) -> io::Result<()> {
     match trees::accept_tree(n, tree) {
-        Ok(rooted) => print!(rt; "root={},{}\n", rooted.root, rooted.top),
-        Err(refusal) => print!(rt; "refused={refusal}\n"),
+        Ok(rooted) => println!(rt; "root={},{}", rooted.root, rooted.top),
+        Err(refusal) => println!(rt; "refused={refusal}"),
     }
 }
 

@@ -5,12 +5,12 @@ use mathlib.Core.List.{List, ◌++◌}
 use Prim.Native.Nat.{ℕ, ◌+◌, ◌-◌, ◌*◌, ◌≤◌, ◌<◌}
 use native.Mathlib.Omega.{arith}
 use lib.ListN.{length, take, drop, take-append-drop}
+use Rattle.std.specs.Prelude.{Result, Ok, Err}
+use Rattle.refusals.specs.declared.Refusal.{Refusal}
 use Rattle.tables.specs.Tables.{stretch, with_stretch}
 use Rattle.tables.proofs.Stretches.{stretch_in, with_long, with_here, with_other}
 use Rattle.entries.specs.Entries.{AllCharacters}
 use Rattle.entries.proofs.Searching as searching
-use Rattle.corrections.specs.declared.Count.{Count}
-use Rattle.corrections.specs.declared.Count.TheVariants.{Rewritten, Refused}
 use Rattle.repairs.specs.Repairs.{Correctable}
 use Rattle.corrections.specs.Corrections.{Corrected, Corrects}
 use Rattle.table_corrections.specs.TableCorrections.{CorrectedIn, CorrectsIn, CorrectableIn}
@@ -99,14 +99,14 @@ module _ (n c t j : ℕ) (tree matrix lows highs lengths : List ℕ) (G : Correc
         length_long : length ps ≡ n - 2
         length_long = C.mended.path.length_long
 
-    corrects_here : (r : Count)
+    corrects_here : (r : Result ℕ Refusal)
         → Corrects n c t j s tree matrix (stretch (n - 2) lows j) (stretch (n - 2) highs j) (stretch (n - 2) lengths j) matrix' pl ph ps r
         → CorrectsIn n c t j s tree matrix lows highs lengths matrix' L H Z r
-    corrects_here (Rewritten k) C = corrected k C
-    corrects_here (Refused r) (h, m, l, g, z) =
+    corrects_here (Ok k) C = corrected k C
+    corrects_here (Err r) (h, m, l, g, z) =
         (h, m, whole_again (n - 2) lows pl l, whole_again (n - 2) highs ph g, whole_again (n - 2) lengths ps z)
 
-    pub corrects : (q : ℕ) → q ≡ n - 2 → (r : Count)
+    pub corrects : (q : ℕ) → q ≡ n - 2 → (r : Result ℕ Refusal)
         → Corrects n c t j s tree matrix (take q (drop start lows)) (take q (drop start highs)) (take q (drop start lengths)) matrix' pl ph ps r
         → CorrectsIn n c t j s tree matrix lows highs lengths matrix' (take start lows ++ (pl ++ drop q (drop start lows)))
         (take start highs ++ (ph ++ drop q (drop start highs))) (take start lengths ++ (ps ++ drop q (drop start lengths))) r

@@ -1,10 +1,9 @@
 -- What the correction of a cell does to the stretch of its character in a kept table, and to no other.
 -- Assumes nothing.
-use Rattle.std.specs.Prelude.{◌≡◌, ◌≢◌, List, ℕ, ◌-◌, ◌≤◌}
+use Rattle.std.specs.Prelude.{◌≡◌, ◌≢◌, List, ℕ, ◌-◌, ◌≤◌, Result, Ok, Err}
+use Rattle.refusals.specs.declared.Refusal.{Refusal}
 use Rattle.refusals.specs.Checks.{Refuses}
 use Rattle.tables.specs.Tables.{stretch, TableLong}
-use Rattle.corrections.specs.declared.Count.{Count}
-use Rattle.corrections.specs.declared.Count.TheVariants.{Rewritten, Refused}
 use Rattle.repairs.specs.Repairs.{Cell}
 use Rattle.corrections.specs.Corrections.{state_checks, Corrected}
 
@@ -22,10 +21,10 @@ pub record CorrectedIn (n c t j s : ℕ) (tree matrix lows highs lengths matrix'
   pub others : (i : ℕ) → 1 ≤ i → i ≤ c → i ≢ j → SameStretch n i lows highs lengths lows' highs' lengths'
 
 -- or the correction is refused, and nothing is changed
-abbrev pub CorrectsIn : (n c t j s : ℕ) (tree matrix lows highs lengths matrix' lows' highs' lengths' : List ℕ) → Count → Type 0
-CorrectsIn n c t j s tree matrix lows highs lengths matrix' lows' highs' lengths' (Rewritten k) =
+abbrev pub CorrectsIn : (n c t j s : ℕ) (tree matrix lows highs lengths matrix' lows' highs' lengths' : List ℕ) → Result ℕ Refusal → Type 0
+CorrectsIn n c t j s tree matrix lows highs lengths matrix' lows' highs' lengths' (Ok k) =
     CorrectedIn n c t j s tree matrix lows highs lengths matrix' lows' highs' lengths' k
-CorrectsIn n c t j s tree matrix lows highs lengths matrix' lows' highs' lengths' (Refused r) =
+CorrectsIn n c t j s tree matrix lows highs lengths matrix' lows' highs' lengths' (Err r) =
     Refuses (state_checks n t s tree (stretch (n - 2) lows j) (stretch (n - 2) highs j) (stretch (n - 2) lengths j)) r
     × (matrix' ≡ matrix) × (lows' ≡ lows) × (highs' ≡ highs) × (lengths' ≡ lengths)
 

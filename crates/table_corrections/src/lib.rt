@@ -3,9 +3,9 @@
 
 ghost use Rattle.table_corrections.specs.TableCorrections.{CorrectsIn, CorrectableIn};
 
-use corrections::Count;
+use refusals::Refusal;
 
-// Corrects a cell in a kept table: the stretch of its character is lent on from the middle of the whole.
+// Corrects a cell in a kept table: 9 and 10, or how many entries were written, all in the stretch of the cell's character.
 pub fn correct_in(
     n: usize,
     c: usize,
@@ -17,7 +17,7 @@ pub fn correct_in(
     lows: &mut [u16],
     highs: &mut [u16],
     lengths: &mut [u32],
-) -> Count
+) -> Result<u32, Refusal>
     requires { CorrectableIn n c taxon character tree.now matrix.old lows.old highs.old lengths.old }
     ensures { CorrectsIn n c taxon character state tree.now matrix.old
         lows.old highs.old lengths.old matrix.new lows.new highs.new lengths.new result }

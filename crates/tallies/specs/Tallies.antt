@@ -1,16 +1,16 @@
 -- Lengths from kept entries as they stand: the paper's step at the root, over the entries of a character.
 -- Assumes nothing.
-use Rattle.std.specs.Prelude.{◌≡◌, List, [], ◌∷◌, ℕ, ◌-◌, ◌*◌, ◌≤◌, ◌<◌, length}
+use Rattle.std.specs.Prelude.{◌≡◌, List, [], ◌∷◌, ℕ, ◌-◌, ◌*◌, ◌≤◌, ◌<◌, length, Result, Ok, Err}
 use Rattle.parsimony.specs.Lists.{sum, from}
 use Rattle.parsimony.specs.Ordered.{ordered}
 use Rattle.parsimony.specs.Steps.{length_by}
 use Rattle.parsimony.specs.Matrix.{state_of}
 use Rattle.parsimony.specs.Character.{cells, ranges, sizes}
+use Rattle.refusals.specs.declared.Refusal.{Refusal}
 use Rattle.refusals.specs.Search.{Never}
 use Rattle.refusals.specs.Checks.{Refuses, Passes}
 use Rattle.tables.specs.Tables.{stretch}
 use Rattle.entries.specs.Entries.{BadAt, BadIn, all_entries, OneCharacter, AllCharacters}
-use Rattle.tallies.specs.declared.Length.{Length}
 
 -- the length of the character j, by three lists with an entry for each interior node
 abbrev pub length_here : (n c j ρ δ : ℕ) (tree matrix lows highs lengths : List ℕ) → ℕ
@@ -31,10 +31,10 @@ abbrev pub IsTotal : (n c ρ δ : ℕ) (matrix lows highs lengths : List ℕ) (r
 IsTotal n c ρ δ matrix lows highs lengths r = (tree : List ℕ) → r ≡ sum (length_in n c ρ δ tree matrix lows highs lengths) (from 1 c)
 
 -- no entry is bad, and the sum is told; or 10 is
-abbrev pub SumsOr : (n c ρ δ : ℕ) (matrix lows highs lengths : List ℕ) → Length → Type 0
-SumsOr n c ρ δ matrix lows highs lengths (Length.Length l) =
+abbrev pub SumsOr : (n c ρ δ : ℕ) (matrix lows highs lengths : List ℕ) → Result ℕ Refusal → Type 0
+SumsOr n c ρ δ matrix lows highs lengths (Ok l) =
     Passes (all_entries n c lows highs lengths ∷ []) × IsTotal n c ρ δ matrix lows highs lengths l
-SumsOr n c ρ δ matrix lows highs lengths (Length.Refused r) = Refuses (all_entries n c lows highs lengths ∷ []) r
+SumsOr n c ρ δ matrix lows highs lengths (Err r) = Refuses (all_entries n c lows highs lengths ∷ []) r
 
 -- ---- the steps
 

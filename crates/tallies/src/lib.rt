@@ -3,14 +3,7 @@
 
 ghost use Rattle.tallies.specs.Tallies.{HasTop, IsLength, AllSound, IsTotal, Totals, SumsOr};
 
-use refusals::{Found, Refusal, long};
-
-// A length, or a refusal.
-#[derive(Clone, Copy)]
-pub enum Length {
-    Length(u32),
-    Refused(Refusal),
-}
+use refusals::{Reason, Refusal};
 
 // The length of one character: what is below the root's descendant, and the distance from there to the root's state.
 pub fn length_here(
@@ -29,7 +22,7 @@ pub fn length_here(
 {
     let here = nodes::range_at(n, c, character, root, matrix, lows, highs);
     let below = nodes::range_at(n, c, character, top, matrix, lows, highs);
-    lengths[top - n - 1] + long(ranges::cost(here, below))
+    lengths[top - n - 1] + u32::from(ranges::cost(here, below))
 }
 
 // The sum of the lengths of all characters, each from its stretch of the kept table.
@@ -47,8 +40,7 @@ fn sum_lengths(
     ensures { IsTotal n c root top matrix.now lows.now highs.now lengths.now result }
 {
     let mut total: u32 = 0;
-    let mut j: usize = 0;
-    while j < c {
+    for j in 0..c {
         let start = j * (n - 2);
         let end = start + (n - 2);
         total += length_here(
@@ -62,7 +54,6 @@ fn sum_lengths(
             &highs[start..end],
             &lengths[start..end],
         );
-        j += 1;
     }
     total
 }
@@ -77,17 +68,16 @@ pub fn sum_or(
     lows: &[u16],
     highs: &[u16],
     lengths: &[u32],
-) -> Length
+) -> Result<u32, Refusal>
     requires { Totals n c root top matrix.now lows.now highs.now lengths.now }
     ensures { SumsOr n c root top matrix.now lows.now highs.now lengths.now result }
 {
-    let bad = entries::bad_entry(n, c, lows, highs, lengths);
-    match bad {
-        Found::At(node) => Length::Refused(Refusal {
-            number: 10,
+    match entries::bad_entry(n, c, lows, highs, lengths) {
+        Some(node) => Err(Refusal {
+            reason: Reason::Kept,
             place: node as u32,
         }),
-        Found::Nowhere => Length::Length(sum_lengths(
+        None => Ok(sum_lengths(
             n, c, root, top, matrix, lows, highs, lengths,
         )),
     }

@@ -40,7 +40,7 @@ pub offset_bounds-out-from : goal.offset_bounds-out-from
 offset_bounds-out-from c = omega (arith, room (goal.at.offset_bounds-out-from c).In_ok-item)
 
 pub bounds-out-from : goal.bounds-out-from
-bounds-out-from c = room (goal.at.bounds-out-from c).In_ok-item
+bounds-out-from c = omega (arith, room (goal.at.bounds-out-from c).In_ok-item)
 
 pub loop-k-preserved : goal.loop-k-preserved
 loop-k-preserved c = (

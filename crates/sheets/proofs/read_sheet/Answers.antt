@@ -2,7 +2,6 @@
 use native.Mathlib.Omega.{arith}
 use mathlib.Core.Path.{sym, ap, ◌∙◌}
 use Prim.Native.Nat.{ℕ, ◌+◌, ◌-◌, ◌*◌, ◌≤◌}
-use lib.ListN.{length}
 use lib.Seq.{length-take-le}
 use Rattle.sheets.proofs.Copying.{held_room, copied}
 use Rattle.sheets.proofs.read_sheet.Goals as goal
@@ -21,8 +20,7 @@ slice_bounds-copy_from_slice-end-5 c =
 
 pub slice_bounds-copy_from_slice-end-6 : goal.slice_bounds-copy_from_slice-end-6
 slice_bounds-copy_from_slice-end-6 c =
-    let h : 2 * c.from-n.result - 2 + c.from-n.result * c.from-c.result ≤ length c.scan.new.out =
-    omega (arith, room (goal.at.slice_bounds-copy_from_slice-end-6 c).After-from-c, c.scan.array_long) in h
+    omega (arith, room (goal.at.slice_bounds-copy_from_slice-end-6 c).After-from-c, c.scan.array_long)
 
 pub returns : goal.returns
 returns c =

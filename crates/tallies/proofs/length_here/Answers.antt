@@ -6,4 +6,4 @@ pub returns : goal.returns
 returns c =
     length-here _ _ _ _ _ c.args.matrix.now c.args.lows.now c.args.highs.now
     c.args.lengths.now c.requires _ _ c.range_at-here.ensures
-    c.range_at-below.ensures _ c.cost.ensures _ c.long.ensures
+    c.range_at-below.ensures _ c.cost.ensures _ c.from.ensures
