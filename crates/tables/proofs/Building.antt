@@ -45,6 +45,12 @@ pub record BuildsTo (n c ρ δ : ℕ) (left right matrix : List ℕ) (k : ℕ) (
   pub room : Room bl bh bs
   pub built : BuiltTo n c ρ δ left right matrix k lows highs lengths
 
+-- as many characters, said otherwise
+pub builds_at : {n c ρ δ : ℕ} {left right matrix : List ℕ} {k k' : ℕ} {bl bh bs lows highs lengths : List ℕ} → k ≡ k'
+    → BuildsTo n c ρ δ left right matrix k bl bh bs lows highs lengths → BuildsTo n c ρ δ left right matrix k' bl bh bs lows highs lengths
+builds_at {n} {c} {ρ} {δ} {left} {right} {matrix} {k} {k'} {bl} {bh} {bs} {lows} {highs} {lengths} e B =
+    subst (λ j. BuildsTo n c ρ δ left right matrix j bl bh bs lows highs lengths) e B
+
 -- ---- one character more
 
 module _ {n c ρ δ : ℕ} {left right matrix : List ℕ} {past w : ℕ} {bl bh bs : List ℕ} (S : Takes n c δ left right matrix past w bl bh bs) where

@@ -45,9 +45,7 @@ pub fn fill_table(
 {
     let shape = shapes::descendants(n, tree);
     let mut block = Block::new();
-    let mut done: usize = 0;
-    // A `while`: a turn goes on by the width of its block, and that is not the same in the last.
-    while done < c {
+    for done in (0..c).step_by(8) {
         let w = passes::width(c - done);
         passes::first_pass(n, c, done, w, top, &shape, matrix, &mut block);
         for i in 0..w {
@@ -63,6 +61,5 @@ pub fn fill_table(
                 &mut lengths[from..to],
             );
         }
-        done += w;
     }
 }

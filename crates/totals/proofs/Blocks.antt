@@ -1,6 +1,6 @@
 -- The length of the tree, one block of characters after the other.
 -- Assumes nothing.
-use mathlib.Core.Path.{◌≡◌, refl, sym, ◌∙◌, ap}
+use mathlib.Core.Path.{◌≡◌, refl, sym, ◌∙◌, ap, subst}
 use mathlib.Core.List.{List}
 use Prim.Native.Nat.{ℕ, ◌+◌, ◌-◌, ◌*◌, ◌≤◌, min}
 use native.Mathlib.Omega.{arith}
@@ -45,6 +45,11 @@ module _ (n c ρ δ : ℕ) (left right matrix : List ℕ) where
 module _ {n c ρ δ : ℕ} {left right matrix : List ℕ} where
   pub sums_none : {lows highs lengths : List ℕ} → Room lows highs lengths → SumsTo n c ρ δ left right matrix 0 0 lows highs lengths
   sums_none room = record { within = omega arith; room = room; small = omega arith; sums = λ tree O. refl }
+
+  -- as many characters, said otherwise
+  pub sums_at : {k k' s : ℕ} {lows highs lengths : List ℕ} → k ≡ k' → SumsTo n c ρ δ left right matrix k s lows highs lengths
+      → SumsTo n c ρ δ left right matrix k' s lows highs lengths
+  sums_at {k} {k'} {s} {lows} {highs} {lengths} e S = subst (λ j. SumsTo n c ρ δ left right matrix j s lows highs lengths) e S
 
 module _ {n c ρ δ : ℕ} {left right matrix : List ℕ} {k s : ℕ} {lows₀ highs₀ lengths₀ : List ℕ}
     (S : SumsTo n c ρ δ left right matrix k s lows₀ highs₀ lengths₀) where

@@ -26,13 +26,10 @@ fn sum_blocks(n: usize, c: usize, root: usize, top: usize, shape: &Shape, matrix
 {
     let mut block = Block::new();
     let mut sum: u32 = 0;
-    let mut done: usize = 0;
-    // A `while`: a turn goes on by the width of its block, and that is not the same in the last.
-    while done < c {
+    for done in (0..c).step_by(8) {
         let w = passes::width(c - done);
         passes::first_pass(n, c, done, w, top, shape, matrix, &mut block);
         sum = add_block(root, top, w, &block, sum);
-        done += w;
     }
     sum
 }
