@@ -87,7 +87,7 @@ def main():
             for _ in re.finditer(r"\bas (u8|u16|u32|u64|usize)\b", line):
                 found[POINTS[5]].append((path, n, line.strip()))
         for n, name, head, body in functions(lines):
-            if name in ("digit", "wanted", "find_root") and re.search(r"return 10;|return 0;|= 0;", body):
+            if name in ("digit", "wanted", "find_root") and re.search(r"return 10;|return 0;|= 0;|\{ 0 \} else", body):
                 found[POINTS[2]].append((path, n, name))
             if re.search(r"\bwhile\b", body) and re.search(r"\b\w+ (\+|-)= ", body):
                 for m in re.finditer(r"\bwhile\b", body):

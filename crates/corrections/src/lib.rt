@@ -57,7 +57,9 @@ pub fn correct_character(
     ensures { Corrects n c taxon character state tree.now matrix.old
         lows.old highs.old lengths.old matrix.new lows.new highs.new lengths.new result }
 {
-    let path = admit(n, c, taxon, character, state, tree, matrix, lows, highs, lengths)?;
+    let path = admit(
+        n, c, taxon, character, state, tree, matrix, lows, highs, lengths,
+    )?;
     repairs::write_path(
         n, c, taxon, character, state, tree, &path, matrix, lows, highs, lengths,
     );

@@ -142,7 +142,6 @@ pub marked_none : (n : ℕ) (path : List ℕ) → Marked n 0 path (replicate 254
 marked_none n path = record { long = length-replicate {A = ℕ} 254 0; on = λ i l. absurd (omega arith); off = λ v lo h. zeros 254 (v - suc n) }
 
 module _ (n count : ℕ) (path : List ℕ) (S : Marks n count path) where
-
   pub marked_more : (i : ℕ) (marks : List ℕ) → i < count → Marked n i path marks → Marked n (i + 1) path (set marks (get_or path i 0 - n - 1) 1)
   marked_more i marks l D =
       record {

@@ -27,13 +27,7 @@ pub fn bad_node(n: usize, lows: &[u16], highs: &[u16], lengths: &[u32]) -> Optio
 }
 
 // The lowest node with a bad entry, of the lowest character that has one.
-pub fn bad_entry(
-    n: usize,
-    c: usize,
-    lows: &[u16],
-    highs: &[u16],
-    lengths: &[u32],
-) -> Option<usize>
+pub fn bad_entry(n: usize, c: usize, lows: &[u16], highs: &[u16], lengths: &[u32]) -> Option<usize>
     requires { AllCharacters n c lows.now highs.now lengths.now }
     ensures { FindsEntry n c lows.now highs.now lengths.now result }
 {

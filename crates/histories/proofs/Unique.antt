@@ -93,8 +93,8 @@ module _ (n c : ℕ) (tree matrix : List ℕ) (nodes : length tree ≡ 2 * n - 2
 
 -- The table is built: any two outcomes are equal, the answer and the three slices.
 module _ (n c : ℕ) (tree matrix : List ℕ) (before : Table) where
-  pub build_outcome : (after after' : Table) (r r' : Result (Unit {0}) Refusal) → Builds n c tree matrix before after r → Builds n c tree matrix before after' r'
-      → (r ≡ r') × (after ≡ after')
+  pub build_outcome : (after after' : Table) (r r' : Result (Unit {0}) Refusal) → Builds n c tree matrix before after r
+      → Builds n c tree matrix before after' r' → (r ≡ r') × (after ≡ after')
   build_outcome after after' (Ok _) (Ok _) (P, M) (P', M') = (
     refl,
     one_meaning n c tree matrix (passed n c tree matrix (table_slices n c before) (all_checks n c matrix) P).nodes after after' M M',

@@ -1,4 +1,4 @@
-// The kept table: build it, correct a cell, and ask it for the tree's length.
+// The kept table: build it, correct a cell, and ask it for the tree's length. The slices of a table stay apart: the C interface lends each by itself.
 #![tactic(auto)]
 
 ghost use Rattle.std.specs.Prelude.{ℕ, ◌≤◌};

@@ -6,18 +6,17 @@ use mathlib.Core.List.{List, [], ◌∷◌, ◌++◌}
 use Prim.Native.Nat.{ℕ, suc, ◌+◌, ◌<◌}
 use native.Mathlib.Omega.{arith}
 use lib.ListN.{length}
+use Rattle.std.specs.Prelude.{Option, Some, None, Result, Ok, Err}
+use Rattle.refusals.specs.declared.Reason.TheVariants.{Length}
 use Rattle.refusals.specs.declared.Refusal.{Refusal}
 use Rattle.refusals.specs.Checks.{Check, Refuses, Passes, Slice, slices}
 use Rattle.refusals.proofs.Order.{refuses_before, clear_slice}
 use Rattle.trees.specs.Answers.{tree_faults}
 use Rattle.choices.specs.declared.Resolve.{Resolve}
-use Rattle.limits.specs.declared.Lent.{Lent}
-use Rattle.limits.specs.declared.Lent.TheVariants.{Exact, Wrong}
 use Rattle.limits.specs.Limits.{Told, lent_slices}
 use Rattle.checks.specs.Calls.{cell_checks, all_checks, character_checks, matrix_checks}
+use Rattle.scores.specs.declared.Scores.{Scores}
 use Rattle.scores.specs.Scores.{Results}
-use Rattle.characters.specs.declared.Answer.{Answer}
-use Rattle.characters.specs.declared.Answer.TheVariants as answer
 use Rattle.characters.specs.Afresh.{result_slices, OneAnswers, AllAnswers}
 use Rattle.answers.specs.Coded.{limit, code, Gives, resolve_of}
 use Rattle.outcomes.specs.Outcomes.{seven_slice, last_wrong, size_checks, lent, TreeAnswers, TreeOutcome, CharacterAnswers, CharacterOutcome}
@@ -27,7 +26,7 @@ use Rattle.outcomes.specs.Outcomes.{seven_slice, last_wrong, size_checks, lent, 
 module _ (t : Slice) (wrong : t.has ≢ t.asked) where
   -- the others are exact
   last-wrong : (i : ℕ) (ss : List Slice) (p : ℕ) → p ≡ i + length ss → Passes (slices i ss)
-      → Refuses (slices i (ss ++ (t ∷ []))) (record { number = 2; place = p })
+      → Refuses (slices i (ss ++ (t ∷ []))) (record { reason = Length; place = p })
   last-wrong i [] p e P = inl (refl, (omega (arith, e), wrong))
   last-wrong i (s ∷ ss) p e (n, P) = inr (n, last-wrong (suc i) ss p (omega (arith, e)) P)
 
@@ -37,10 +36,10 @@ module _ (t : Slice) (wrong : t.has ≢ t.asked) where
   earlier_wrong i (s ∷ ss) q (inl h) = inl h
   earlier_wrong i (s ∷ ss) q (inr (n, h)) = inr (n, earlier_wrong (suc i) ss q h)
 
-  pub told-last : (ss : List Slice) (told : Lent) (p : ℕ) → p ≡ 1 + length ss → Told 1 ss told
+  pub told-last : (ss : List Slice) (told : Option ℕ) (p : ℕ) → p ≡ 1 + length ss → Told 1 ss told
       → Refuses (slices 1 (ss ++ (t ∷ []))) (last_wrong told p)
-  told-last ss Exact p e h = last-wrong 1 ss p e h
-  told-last ss (Wrong k) p e h = earlier_wrong 1 ss (record { number = 2; place = k }) h
+  told-last ss None p e h = last-wrong 1 ss p e h
+  told-last ss (Some k) p e h = earlier_wrong 1 ss (record { reason = Length; place = k }) h
 
 -- ---- the last is exact
 
@@ -61,10 +60,10 @@ module _ (n c : ℕ) (tree matrix result : List ℕ) (exact : length result ≡ 
   tree-passes (k, P) =
       (k, passes_still (seven_slice (length result)) exact (tree_faults n tree ++ all_checks n c matrix) 1 (lent_slices n c tree matrix []) P)
 
-  pub tree-answers : (a : Answer) → AllAnswers n c tree matrix a → TreeAnswers n c tree matrix result a
-  tree-answers (answer.Scores s) h = (exact, h)
-  tree-answers (answer.Refused q) (inl h) = inl h
-  tree-answers (answer.Refused q) (inr (k, h)) =
+  pub tree-answers : (a : Result Scores Refusal) → AllAnswers n c tree matrix a → TreeAnswers n c tree matrix result a
+  tree-answers (Ok s) h = (exact, h)
+  tree-answers (Err q) (inl h) = inl h
+  tree-answers (Err q) (inr (k, h)) =
       inr (k, refuses_still (seven_slice (length result)) exact (tree_faults n tree ++ all_checks n c matrix) 1 (lent_slices n c tree matrix []) q h)
 
   module _ (j : ℕ) (resolve : Resolve) (before : Results) where
@@ -76,11 +75,11 @@ module _ (n c : ℕ) (tree matrix result : List ℕ) (exact : length result ≡ 
           (lent_slices n c tree matrix (result_slices n before)) P,
     )
 
-    pub character-answers : (after : Results) (a : Answer) → OneAnswers n c j resolve tree matrix before after a
+    pub character-answers : (after : Results) (a : Result Scores Refusal) → OneAnswers n c j resolve tree matrix before after a
         → CharacterAnswers n c j resolve tree matrix before after result a
-    character-answers after (answer.Scores s) h = (exact, h)
-    character-answers after (answer.Refused q) (inl h, e) = (inl h, e)
-    character-answers after (answer.Refused q) (inr (k, h), e) = (
+    character-answers after (Ok s) h = (exact, h)
+    character-answers after (Err q) (inl h, e) = (inl h, e)
+    character-answers after (Err q) (inr (k, h), e) = (
       inr (
         k,
         refuses_still (seven_slice (length result)) exact (tree_faults n tree ++ cell_checks n c j matrix) 1
@@ -93,14 +92,14 @@ module _ (n c : ℕ) (tree matrix result : List ℕ) (exact : length result ≡ 
 
 -- refused by its sizes, the result slice among them
 module _ (n c : ℕ) (tree matrix result : List ℕ) (q : Refusal) (r : ℕ) (coded : (r ≡ code q) × (q.place < limit)) where
-  refused : Gives (answer.Refused q) result result r
+  refused : Gives (Err q) result result r
   refused = record { fits = coded.1; value = coded.0; results = refl }
 
   pub tree-refusal : Refuses (size_checks n c (lent n c (length tree) (length matrix) (seven_slice (length result) ∷ []))) q
       → TreeOutcome n c tree matrix result result r
   tree-refusal h =
       record {
-        answer = answer.Refused q;
+        answer = Err q;
         answers =
             refuses_before (size_checks n c (lent n c (length tree) (length matrix) (seven_slice (length result) ∷ [])))
             (tree_faults n tree ++ all_checks n c matrix) q h;
@@ -112,7 +111,7 @@ module _ (n c : ℕ) (tree matrix result : List ℕ) (q : Refusal) (r : ℕ) (co
       → CharacterOutcome n c j resolve tree matrix before before result result r
   character-refusal j resolve before h =
       record {
-        answer = answer.Refused q;
+        answer = Err q;
         answers = (
           refuses_before (size_checks n c (lent n c (length tree) (length matrix) (result_slices n before ++ (seven_slice (length result) ∷ []))))
               (tree_faults n tree ++ cell_checks n c j matrix) q h,
@@ -122,7 +121,7 @@ module _ (n c : ℕ) (tree matrix result : List ℕ) (q : Refusal) (r : ℕ) (co
       }
 
 -- what the call behind answers, with an exact result slice
-module _ (n c : ℕ) (tree matrix result : List ℕ) (exact : length result ≡ 7) (a : Answer) (after : List ℕ) (r : ℕ) (gives : Gives a result after r)
+module _ (n c : ℕ) (tree matrix result : List ℕ) (exact : length result ≡ 7) (a : Result Scores Refusal) (after : List ℕ) (r : ℕ) (gives : Gives a result after r)
   where
     pub tree-given : AllAnswers n c tree matrix a → TreeOutcome n c tree matrix result after r
     tree-given h = record { answer = a; answers = tree-answers n c tree matrix result exact a h; gives = gives }

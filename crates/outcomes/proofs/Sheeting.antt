@@ -4,17 +4,15 @@ use mathlib.Core.Path.{◌≡◌, refl}
 use mathlib.Core.List.{List, [], ◌∷◌}
 use Prim.Native.Nat.{ℕ, ◌<◌}
 use lib.ListN.{length}
+use Rattle.std.specs.Prelude.{Result, Ok, Err}
 use Rattle.refusals.specs.declared.Refusal.{Refusal}
 use Rattle.refusals.specs.Checks.{Refuses, Passes, slices}
 use Rattle.refusals.proofs.Order.{refuses_before, clear_slice}
 use Rattle.forms.specs.Faults.{text_checks}
 use Rattle.forms.proofs.Unique.{sheet-passes}
 use Rattle.choices.specs.declared.Resolve.{Resolve}
-use Rattle.bodies.specs.declared.SheetAnswer.{SheetAnswer}
-use Rattle.bodies.specs.declared.SheetAnswer.TheVariants.{Read, Refused}
+use Rattle.bodies.specs.declared.Head.{Head}
 use Rattle.sheets.specs.Answers.{tree_slice, matrix_slice, Reads, Answers}
-use Rattle.reports.specs.declared.ReportAnswer.{ReportAnswer}
-use Rattle.reports.specs.declared.ReportAnswer.TheVariants as report
 use Rattle.reports.specs.Says.{Reports}
 use Rattle.answers.specs.Coded.{limit, code}
 use Rattle.sheet_answers.specs.Replies.{GivesSheet, sheet_slices, Short}
@@ -28,7 +26,7 @@ module _ (text tree matrix result : List ℕ) where
       → SheetOutcome text tree matrix result tree matrix result r
   sheet-refusal q r coded h =
       record {
-        answer = Refused q;
+        answer = Err q;
         answers = (refuses_before (slices 1 (sheet_slices (length tree) (length matrix) (length result))) (text_checks text) q h, refl, refl);
         gives = record { told = record { fits = coded.1; value = coded.0 }; results = refl };
       }
@@ -43,9 +41,9 @@ module _ (text tree matrix result : List ℕ) where
       ),
     )
 
-    sheet-answers : (a : SheetAnswer) (t m : List ℕ) → Answers text tree matrix a t m → SheetAnswers text tree matrix result t m a
-    sheet-answers (Read n c r) t m R = (exact, R)
-    sheet-answers (Refused q) t m (h, e, f) = (
+    sheet-answers : (a : Result Head Refusal) (t m : List ℕ) → Answers text tree matrix a t m → SheetAnswers text tree matrix result t m a
+    sheet-answers (Ok h) t m R = (exact, R)
+    sheet-answers (Err q) t m (h, e, f) = (
       refuses_still (record { has = length result; asked = 3 }) exact (text_checks text) 1
           (tree_slice text tree matrix ∷ matrix_slice text tree matrix ∷ []) q h,
       e,
@@ -53,12 +51,12 @@ module _ (text tree matrix result : List ℕ) where
     )
 
     -- what `read_sheet` answers, with an exact result slice
-    pub sheet-given : (a : SheetAnswer) (t m after : List ℕ) (r : ℕ) → Answers text tree matrix a t m → GivesSheet a result after r
+    pub sheet-given : (a : Result Head Refusal) (t m after : List ℕ) (r : ℕ) → Answers text tree matrix a t m → GivesSheet a result after r
         → SheetOutcome text tree matrix result t m after r
     sheet-given a t m after r h G = record { answer = a; answers = sheet-answers a t m h; gives = G }
 
 -- ---- the report
 
-pub short : (text out out' : List ℕ) (a : ReportAnswer) → Reports text out out' a → Short a
-short text out out' (report.Written size) (e, P) = P.fits
-short text out out' (report.Refused q) h = tt
+pub short : (text out out' : List ℕ) (a : Result ℕ Refusal) → Reports text out out' a → Short a
+short text out out' (Ok size) (e, P) = P.fits
+short text out out' (Err q) h = tt

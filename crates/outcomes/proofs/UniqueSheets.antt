@@ -4,11 +4,12 @@ use mathlib.Core.Path.{◌≡◌, sym, ◌∙◌, ap}
 use mathlib.Core.List.{List}
 use Prim.Native.Nat.{ℕ}
 use lib.ListN.{length}
+use Rattle.std.specs.Prelude.{Result, Ok, Err}
+use Rattle.refusals.specs.declared.Refusal.{Refusal}
 use Rattle.refusals.specs.Checks.{slices}
 use Rattle.refusals.proofs.Order.{AllSure, sure_at, sure_lowest, sure_append, sure_slices, one-refusal, not_refused}
 use Rattle.forms.specs.Faults.{TooLong, NotInForm, Outside, text_checks}
-use Rattle.bodies.specs.declared.SheetAnswer.{SheetAnswer}
-use Rattle.bodies.specs.declared.SheetAnswer.TheVariants.{Read, Refused}
+use Rattle.bodies.specs.declared.Head.{Head}
 use Rattle.sheets.proofs.Unique as sheets
 use Rattle.reports.proofs.Unique as reports
 use Rattle.answers.proofs.Reading.{same-told}
@@ -25,16 +26,16 @@ module _ (text tree matrix result : List ℕ) where
       (sure_slices 1 (sheet_slices (length tree) (length matrix) (length result)))
       (sure_at 12 0 (TooLong text), (sure_lowest 11 (NotInForm text) 2, (sure_at 1 0 (Outside text), (sure_lowest 11 (NotInForm text) 261, tt))))
 
-  one_answer : (a a' : SheetAnswer) (t t' m m' : List ℕ) → SheetAnswers text tree matrix result t m a
+  one_answer : (a a' : Result Head Refusal) (t t' m m' : List ℕ) → SheetAnswers text tree matrix result t m a
       → SheetAnswers text tree matrix result t' m' a' → (a ≡ a') × (t ≡ t') × (m ≡ m')
-  one_answer (Read n c r) (Read n' c' r') t t' m m' (e, R) (e', R') =
-      sheets.one_outcome text tree matrix (Read n c r) (Read n' c' r') t t' m m' R R'
-  one_answer (Read n c r) (Refused q) t t' m m' (e, R) (h, _, _) =
-      absurd (not_refused (read_checks text tree matrix result) (sheet-passes-call text tree matrix result e n c r t m R) q h)
-  one_answer (Refused q) (Read n c r) t t' m m' (h, _, _) (e, R) =
-      absurd (not_refused (read_checks text tree matrix result) (sheet-passes-call text tree matrix result e n c r t' m' R) q h)
-  one_answer (Refused q) (Refused q') t t' m m' (h, e, f) (h', e', f') =
-      (ap Refused (one-refusal (read_checks text tree matrix result) sure_read q q' h h'), e ∙ sym e', f ∙ sym f')
+  one_answer (Ok h) (Ok h') t t' m m' (e, R) (e', R') =
+      sheets.one_outcome text tree matrix (Ok h) (Ok h') t t' m m' R R'
+  one_answer (Ok h) (Err q) t t' m m' (e, R) (x, _, _) =
+      absurd (not_refused (read_checks text tree matrix result) (sheet-passes-call text tree matrix result e h.n h.c h.resolve t m R) q x)
+  one_answer (Err q) (Ok h) t t' m m' (x, _, _) (e, R) =
+      absurd (not_refused (read_checks text tree matrix result) (sheet-passes-call text tree matrix result e h.n h.c h.resolve t' m' R) q x)
+  one_answer (Err q) (Err q') t t' m m' (h, e, f) (h', e', f') =
+      (ap Err (one-refusal (read_checks text tree matrix result) sure_read q q' h h'), e ∙ sym e', f ∙ sym f')
 
   -- `badrumello_read_sheet`: the tree, the matrix, the result slice and the number are one.
   pub one_sheet_outcome : (t t' m m' after after' : List ℕ) (r r' : ℕ) → SheetOutcome text tree matrix result t m after r

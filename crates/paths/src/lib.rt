@@ -19,6 +19,7 @@ pub fn path_of(n: usize, tree: &[u16], node: usize) -> Path
     let mut nodes = [0; 254];
     let mut count = 0;
     let mut at = tree[node - 1];
+    // A `while`: how far the root is shows only where the climb ends.
     'climb: while n < usize::from(at) {
         nodes[count] = at;
         count += 1;

@@ -45,5 +45,7 @@ pub fn write_path(
 {
     let shape = shapes::descendants(n, tree);
     matrix[(taxon - 1) * c + (character - 1)] = state;
-    mending::mend_path(n, c, character, taxon, tree, matrix, &shape, path, lows, highs, lengths);
+    mending::mend_path(
+        n, c, character, taxon, tree, matrix, &shape, path, lows, highs, lengths,
+    );
 }

@@ -5,7 +5,6 @@
 ghost use Rattle.std.specs.Prelude.{◌≡◌, length, take, IfSome, OnOk};
 ghost use Rattle.report.specs.Gains.{GainsReport};
 
-use reports::ReportAnswer;
 use std::io;
 use std::io::{Read, Write};
 
@@ -13,10 +12,9 @@ use std::io::{Read, Write};
 fn write_report<W: Write>(text: &[u8], out: &mut [u8], output: &mut W) -> io::Result<()>
     ensures { OnOk result (length out.old ≡ 524288 → GainsReport text.now (W.contents output.old) (W.contents output.new)) }
 {
-    let got = reports::report(text, out);
-    match got {
-        ReportAnswer::Written(size) => output.write_all(&out[..size]),
-        ReportAnswer::Refused(refusal) => Ok(()), // not for a slice of 524,288 bytes
+    match reports::report(text, out) {
+        Ok(size) => output.write_all(&out[..size]),
+        Err(_) => Ok(()), // not for a slice of 524,288 bytes
     }
 }
 

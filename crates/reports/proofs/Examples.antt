@@ -5,7 +5,8 @@ use mathlib.Core.Path.{◌≡◌, refl}
 use mathlib.Core.List.{[], ◌∷◌}
 use Prim.Native.Nat.{ℕ, suc, zero}
 use Rattle.numbers.specs.Printed.{decimal_of, continued, commas}
-use Rattle.indices.specs.declared.Index.TheVariants.{Fraction, None}
+use Rattle.std.specs.Prelude.{Option, Some, None}
+use Rattle.indices.specs.declared.Fraction.{Fraction}
 use Rattle.choices.specs.declared.Resolve.TheVariants.{Acctran}
 use Rattle.scores.specs.declared.Scores.{Scores}
 use Rattle.fields.specs.Fields.{index}
@@ -14,13 +15,17 @@ use Rattle.summaries.specs.Report.{refused_line}
 use Rattle.turns.specs.Lines.{Found}
 use Rattle.reports.specs.Says.{report_text}
 
+-- an index that is a fraction
+abbrev pub some : ℕ → ℕ → Option Fraction
+some over under = Some (record { over = over; under = under })
+
 abbrev pub tree : Scores
-tree = record { length = 9; m = 6; g = 11; ci = Fraction 6 9; ri = Fraction 2 5 }
+tree = record { length = 9; m = 6; g = 11; ci = some 6 9; ri = some 2 5 }
 
 abbrev pub first : Found
 first =
     record {
-      scores = record { length = 7; m = 5; g = 9; ci = Fraction 5 7; ri = Fraction 2 4 };
+      scores = record { length = 7; m = 5; g = 9; ci = some 5 7; ri = some 2 4 };
       results =
           record {
             first_lows = 3 ∷ 1 ∷ [];
@@ -35,7 +40,7 @@ first =
 abbrev pub second : Found
 second =
     record {
-      scores = record { length = 2; m = 1; g = 2; ci = Fraction 1 2; ri = Fraction 0 1 };
+      scores = record { length = 2; m = 1; g = 2; ci = some 1 2; ri = some 0 1 };
       results =
           record {
             first_lows = 1 ∷ 0 ∷ [];

@@ -8,10 +8,10 @@ use native.Mathlib.Omega.{arith}
 use lib.ListN.{length, take, drop}
 use lib.Seq.{sets-eq, take_at}
 use Rattle.refusals.specs.declared.Refusal.{Refusal}
+use Rattle.refusals.specs.Reasons.{number}
 use Rattle.refusals.specs.Checks.{Refuses}
 use Rattle.choices.specs.declared.Resolve.{Resolve}
 use Rattle.forms.specs.Sheets.{choice}
-use Rattle.forms.specs.Faults.{text_checks}
 use Rattle.forms.proofs.Unique.{sheet-room}
 use Rattle.sheets.specs.Answers.{sheet_checks, Reads}
 use Rattle.sheets.proofs.Copying.{cells_count}
@@ -23,7 +23,7 @@ use Rattle.fields.proofs.Room.{looser, fitting-both}
 use Rattle.summaries.specs.Report.{tree_lines, refused_line}
 use Rattle.summaries.specs.Rooms.{tree_room, refused_room}
 use Rattle.layouts.specs.Rooms.{character_room}
-use Rattle.reports.specs.Says.{report_text, Scored, report, refusal, sheet, none, Prints}
+use Rattle.reports.specs.Says.{report_text, Scored, report, refusal, Says, sheet, none, Prints}
 use Rattle.reports.specs.Steps.{Sized, Whole, Told}
 use Rattle.turns.specs.Lines.{lines_to, Some}
 use Rattle.turns.proofs.Writing.{characters-room}
@@ -42,15 +42,6 @@ module _ {n c : ℕ} {r : Resolve} {tree matrix before after : List ℕ} {size :
             looser before after 0 size (report_text n c r s S.found) (tree_room + c * character_room (n - 2)) 524288
             (fitting-both (tree_lines n c s r) (lines_to S.found c) before mid after 0 next size tree_room (c * character_room (n - 2)) f S.fitting)
             (characters-room n c Z.limits.least Z.limits.few Z.few);
-      }
-
-  pub whole-refused : (q : Refusal) → Refuses (matrix_checks n c tree matrix []) q
-      → Fitting before after 0 size (refused_line q.number q.place) refused_room → Whole n c r tree matrix before after size
-  whole-refused q h f =
-      record {
-        written = refused_line q.number q.place;
-        scored = refusal q h;
-        fitting = looser before after 0 size (refused_line q.number q.place) refused_room 524288 f (omega arith);
       }
 
 -- ---- a text
@@ -94,32 +85,33 @@ module _ {text tree matrix : List ℕ} {n c : ℕ} {r : Resolve} {tree' matrix' 
         few = few-cells;
       }
 
+  -- what is written of them is written of the sheet
+  of_sheet : {w : List ℕ} → Scored n c r (take (2 * n - 2) tree') (take (n * c) matrix') w
+      → Scored R.sheet.taxa R.sheet.characters (choice R.sheet.last) R.sheet.ancestors (flatten R.sheet.rows) w
+  of_sheet W = rw R.taxa_is (rw R.characters_is (rw R.choice_is (rw (sym the_tree) (rw (sym the_matrix) W))))
+
   pub told-sheet : {out out' : List ℕ} {size : ℕ} → Whole n c r (take (2 * n - 2) tree') (take (n * c) matrix') out out' size
       → Told text out out' size
-  told-sheet W =
-      record {
-        written = W.written;
-        says = sheet R.sheet R.is_sheet W.written here;
-        fitting = W.fitting;
-      }
-    where
-      here : Scored R.sheet.taxa R.sheet.characters (choice R.sheet.last) R.sheet.ancestors (flatten R.sheet.rows) W.written
-      here =
-          rw R.taxa_is (rw R.characters_is (rw R.choice_is (rw (sym the_tree) (rw (sym the_matrix) W.scored))))
+  told-sheet W = record { written = W.written; says = sheet R.sheet R.is_sheet W.written (of_sheet W.scored); fitting = W.fitting }
+
+  pub refused-sheet : (q : Refusal) → Refuses (matrix_checks n c (take (2 * n - 2) tree') (take (n * c) matrix') []) q
+      → Says text (refused_line (number q) q.place)
+  refused-sheet q h = sheet R.sheet R.is_sheet (refused_line (number q) q.place) (of_sheet (refusal q h))
 
 -- a text that is no sheet: the slices are of the right lengths
-pub told_none : (text tree matrix : List ℕ) → length tree ≡ 510 → length matrix ≡ 16384 → (q : Refusal) → Refuses (sheet_checks text tree matrix) q
-    → {out out' : List ℕ} {size : ℕ} → Fitting out out' 0 size (refused_line q.number q.place) refused_room → Told text out out' size
-told_none text tree matrix h g q R {out} {out'} {size} f =
+pub refused_text : (text tree matrix : List ℕ) → length tree ≡ 510 → length matrix ≡ 16384 → (q : Refusal) → Refuses (sheet_checks text tree matrix) q
+    → Says text (refused_line (number q) q.place)
+refused_text text tree matrix h g q R = none q (⊎_elim (λ (e, (p, x)). absurd (x h)) (λ (k, S). ⊎_elim (λ (e, (p, x)). absurd (x g)) (λ (k', T). T) S) R)
+
+-- the line of a refusal, written
+pub told_refused : {text out out' : List ℕ} {size : ℕ} (q : Refusal) → Says text (refused_line (number q) q.place)
+    → Fitting out out' 0 size (refused_line (number q) q.place) refused_room → Told text out out' size
+told_refused {out = out} {out' = out'} {size = size} q S f =
     record {
-      written = refused_line q.number q.place;
-      says = none q refused;
-      fitting = looser out out' 0 size (refused_line q.number q.place) refused_room 524288 f (omega arith);
+      written = refused_line (number q) q.place;
+      says = S;
+      fitting = looser out out' 0 size (refused_line (number q) q.place) refused_room 524288 f (omega arith);
     }
-  where
-    refused : Refuses (text_checks text) q
-    refused =
-        ⊎_elim (λ (e, (p, x)). absurd (x h)) (λ (k, S). ⊎_elim (λ (e, (p, x)). absurd (x g)) (λ (k', T). T) S) R
 
 -- ---- the slice
 

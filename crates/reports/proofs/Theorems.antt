@@ -5,7 +5,9 @@ use mathlib.Core.Path.{◌≡◌, refl, ◌∙◌}
 use mathlib.Core.List.{List, ◌++◌, flatten}
 use Prim.Native.Nat.{ℕ, ◌+◌, ◌*◌, ◌≤◌, ◌<◌}
 use lib.ListN.{length, drop}
+use Rattle.std.specs.Prelude.{Result, Ok, Err}
 use Rattle.refusals.specs.declared.Refusal.{Refusal}
+use Rattle.refusals.specs.Reasons.{number}
 use Rattle.refusals.specs.Checks.{Refuses}
 use Rattle.forms.specs.Sheets.{Sheet, choice, IsSheet}
 use Rattle.forms.specs.Faults.{text_checks}
@@ -13,8 +15,6 @@ use Rattle.fields.specs.Fields.{thousandths}
 use Rattle.fields.specs.Proper.{AtMost}
 use Rattle.fields.proofs.Rounding as rounding
 use Rattle.summaries.specs.Report.{refused_line}
-use Rattle.reports.specs.declared.ReportAnswer.{ReportAnswer}
-use Rattle.reports.specs.declared.ReportAnswer.TheVariants.{Written, Refused}
 use Rattle.reports.specs.Says.{Scored, Says, none, Reports}
 use Rattle.reports.proofs.Unique as unique
 
@@ -33,22 +33,22 @@ one-report = unique.one-said
 
 module _ (text out : List ℕ) where
   -- From the contract alone any two outcomes are equal: the answer, and what the slice holds afterwards.
-  pub one_outcome : (a a' : ReportAnswer) (o o' : List ℕ) → Reports text out o a → Reports text out o' a' → (a ≡ a') × (o ≡ o')
+  pub one_outcome : (a a' : Result ℕ Refusal) (o o' : List ℕ) → Reports text out o a → Reports text out o' a' → (a ≡ a') × (o ≡ o')
   one_outcome = unique.one_outcome text out
 
   -- Every text gets a report in a slice of 524,288 bytes, and it has room there.
-  pub every_text_answered : length out ≡ 524288 → (a : ReportAnswer) (o : List ℕ) → Reports text out o a
-      → (size : ℕ) × (a ≡ Written size) × (size ≤ 524288)
-  every_text_answered h (Written size) o (e, P) = (size, refl, P.fits)
-  every_text_answered h (Refused q) o (x, e) = absurd (unique.not_both text out q h x)
+  pub every_text_answered : length out ≡ 524288 → (a : Result ℕ Refusal) (o : List ℕ) → Reports text out o a
+      → (size : ℕ) × (a ≡ Ok size) × (size ≤ 524288)
+  every_text_answered h (Ok size) o (e, P) = (size, refl, P.fits)
+  every_text_answered h (Err q) o (x, e) = absurd (unique.not_both text out q h x)
 
   -- A sheet is reported on: what stands at the front of the slice is the report on what the sheet says.
-  pub sheet_reported : (s : Sheet) → IsSheet text s → (size : ℕ) (o : List ℕ) → Reports text out o (Written size)
+  pub sheet_reported : (s : Sheet) → IsSheet text s → (size : ℕ) (o : List ℕ) → Reports text out o (Ok size)
       → (w : List ℕ) × Scored s.taxa s.characters (choice s.last) s.ancestors (flatten s.rows) w × (o ≡ w ++ drop (length w) out)
   sheet_reported s S size o (e, P) = (P.written, unique.said_of_sheet text s S P.says, P.after)
 
   -- A text that is no sheet gets one line, with the refusal of the text.
-  pub refused_reported : (q : Refusal) → Refuses (text_checks text) q → (size : ℕ) (o : List ℕ) → Reports text out o (Written size)
-      → o ≡ refused_line q.number q.place ++ drop (length (refused_line q.number q.place)) out
+  pub refused_reported : (q : Refusal) → Refuses (text_checks text) q → (size : ℕ) (o : List ℕ) → Reports text out o (Ok size)
+      → o ≡ refused_line (number q) q.place ++ drop (length (refused_line (number q) q.place)) out
   refused_reported q h size o (e, P) =
-      P.after ∙ unique.kept-behind out P.written (refused_line q.number q.place) (unique.one-said text P.says (none q h))
+      P.after ∙ unique.kept-behind out P.written (refused_line (number q) q.place) (unique.one-said text P.says (none q h))

@@ -4,7 +4,9 @@ use mathlib.Core.Path.{◌≡◌, sym, ◌∙◌, ap, subst}
 use mathlib.Core.List.{List, [], ◌∷◌, ◌++◌, flatten}
 use Prim.Native.Nat.{ℕ, ◌≤◌}
 use lib.ListN.{length, drop}
+use Rattle.std.specs.Prelude.{Result, Ok, Err}
 use Rattle.refusals.specs.declared.Refusal.{Refusal}
+use Rattle.refusals.specs.Reasons.{number}
 use Rattle.refusals.specs.Checks.{Refuses, slices}
 use Rattle.refusals.proofs.Order.{AllSure, sure_at, sure_lowest, sure_slices, one-refusal, not_refused, clear_slice}
 use Rattle.choices.specs.declared.Resolve.{Resolve}
@@ -15,21 +17,18 @@ use Rattle.forms.specs.Faults.{TooLong, NotInForm, Outside, text_checks}
 use Rattle.forms.proofs.Unique.{one-sheet, sheet-passes}
 use Rattle.scores.specs.declared.Scores.{Scores}
 use Rattle.scores.specs.Scores.{Results}
-use Rattle.characters.specs.declared.Answer.TheVariants as answer
 use Rattle.characters.proofs.Unique.{one_character_outcome, all-characters-answer}
 use Rattle.summaries.specs.Report.{tree_lines, refused_line}
-use Rattle.reports.specs.declared.ReportAnswer.{ReportAnswer}
-use Rattle.reports.specs.declared.ReportAnswer.TheVariants.{Written, Refused}
 use Rattle.reports.specs.Says.{report_text, Means, Scored, report, refusal, Says, sheet, none, out_slice, Reports}
 use Rattle.turns.specs.Lines.{Found, lines_to, Ready}
 use Rattle.turns.proofs.Ready.{ready, scored-one}
 use Rattle.turns.proofs.Writing.{lines_alike}
 
-same-scores : (s s' : Scores) → answer.Scores s ≡ answer.Scores s' → s ≡ s'
+same-scores : (s s' : Scores) → ◌≡◌ {A = Result Scores Refusal} (Ok s) (Ok s') → s ≡ s'
 same-scores s s' e = cc
 
-same_line : (q q' : Refusal) → q ≡ q' → refused_line q.number q.place ≡ refused_line q'.number q'.place
-same_line q q' e = ap (λ (x : Refusal). refused_line x.number x.place) e
+same_line : (q q' : Refusal) → q ≡ q' → refused_line (number q) q.place ≡ refused_line (number q') q'.place
+same_line q q' e = ap (λ (x : Refusal). refused_line (number x) x.place) e
 
 -- equal texts leave the same behind them
 pub kept-behind : (out a b : List ℕ) → a ≡ b → a ++ drop (length a) out ≡ b ++ drop (length b) out
@@ -40,14 +39,14 @@ kept-behind out a b e = ap (λ (l : List ℕ). l ++ drop (length l) out) e
 module _ (n c : ℕ) (r : Resolve) (tree matrix : List ℕ) where
   module _ (s s' : Scores) (found found' : ℕ → Found) (M : Means n c r tree matrix s found) (M' : Means n c r tree matrix s' found') where
     one-tree : s ≡ s'
-    one-tree = same-scores s s' (all-characters-answer n c tree matrix (answer.Scores s) (answer.Scores s') M.scored M'.scored)
+    one-tree = same-scores s s' (all-characters-answer n c tree matrix (Ok s) (Ok s') M.scored M'.scored)
 
     one_found : (j : ℕ) → 1 ≤ j → j ≤ c → found j ≡ found' j
     one_found j p q =
         let R : Ready n c tree matrix = ready n c tree matrix s M.scored in
         let (e, d) =
-        one_character_outcome n c j r tree matrix (found j).results (found j).results (found' j).results (answer.Scores (found j).scores)
-        (answer.Scores (found' j).scores)
+        one_character_outcome n c j r tree matrix (found j).results (found j).results (found' j).results (Ok (found j).scores)
+        (Ok (found' j).scores)
         (scored-one n c tree matrix R j p q r (found j).results (found j).results (M.each j p q).long (found j).scores M.scored.ρ
         M.scored.δ M.scored.accepted (M.each j p q))
         (scored-one n c tree matrix R j p q r (found j).results (found' j).results (M.each j p q).long (found' j).scores M'.scored.ρ
@@ -99,13 +98,13 @@ module _ (text : List ℕ) where
     pub not_both : (q : Refusal) → length out ≡ 524288 → Refuses (slices 1 (out_slice out ∷ [])) q → ⊥
     not_both q h x = not_refused (slices 1 (out_slice out ∷ [])) (clear_slice 1 (length out) 524288 h, tt) q x
 
-    pub one_outcome : (a a' : ReportAnswer) (o o' : List ℕ) → Reports text out o a → Reports text out o' a' → (a ≡ a') × (o ≡ o')
-    one_outcome (Written k) (Written k') o o' (h, P) (h', P') =
+    pub one_outcome : (a a' : Result ℕ Refusal) (o o' : List ℕ) → Reports text out o a → Reports text out o' a' → (a ≡ a') × (o ≡ o')
+    one_outcome (Ok k) (Ok k') o o' (h, P) (h', P') =
         let e : P.written ≡ P'.written = one-said P.says P'.says in (
-          ap Written (P.size_is ∙ ap length e ∙ sym P'.size_is),
+          ap Ok (P.size_is ∙ ap length e ∙ sym P'.size_is),
           P.after ∙ kept-behind out P.written P'.written e ∙ sym P'.after,
         )
-    one_outcome (Written k) (Refused q) o o' (h, P) (x, e) = absurd (not_both q h x)
-    one_outcome (Refused q) (Written k) o o' (x, e) (h, P) = absurd (not_both q h x)
-    one_outcome (Refused q) (Refused q') o o' (x, e) (x', e') =
-        (ap Refused (one-refusal (slices 1 (out_slice out ∷ [])) (sure_slices 1 (out_slice out ∷ [])) q q' x x'), e ∙ sym e')
+    one_outcome (Ok k) (Err q) o o' (h, P) (x, e) = absurd (not_both q h x)
+    one_outcome (Err q) (Ok k) o o' (x, e) (h, P) = absurd (not_both q h x)
+    one_outcome (Err q) (Err q') o o' (x, e) (x', e') =
+        (ap Err (one-refusal (slices 1 (out_slice out ∷ [])) (sure_slices 1 (out_slice out ∷ [])) q q' x x'), e ∙ sym e')

@@ -1,10 +1,11 @@
 -- What the report on a text says: the printing of values that have their meaning, or the line of the refusal that the text, its tree or its matrix
 -- gets.
 -- Assumes nothing.
-use Rattle.std.specs.Prelude.{◌≡◌, ℕ, ◌≤◌, length, drop}
+use Rattle.std.specs.Prelude.{◌≡◌, ℕ, ◌≤◌, length, drop, Result, Ok, Err}
 use mathlib.Core.List.{List, [], ◌∷◌, ◌++◌, flatten}
 use Rattle.parsimony.specs.Matrix.{state_of}
 use Rattle.refusals.specs.declared.Refusal.{Refusal}
+use Rattle.refusals.specs.Reasons.{number}
 use Rattle.refusals.specs.Checks.{Refuses, Slice, slices}
 use Rattle.choices.specs.declared.Resolve.{Resolve}
 use Rattle.checks.specs.Calls.{matrix_checks}
@@ -15,8 +16,6 @@ use Rattle.scores.specs.Scores.{CharacterMeans}
 use Rattle.characters.specs.Afresh.{AllScored}
 use Rattle.summaries.specs.Report.{tree_lines, refused_line}
 use Rattle.turns.specs.Lines.{Found, lines_to}
-use Rattle.reports.specs.declared.ReportAnswer.{ReportAnswer}
-use Rattle.reports.specs.declared.ReportAnswer.TheVariants.{Written, Refused}
 
 -- ---- the values, and their printing
 
@@ -34,13 +33,13 @@ pub record Means (n c : ℕ) (r : Resolve) (tree matrix : List ℕ) (s : Scores)
 -- what is written of a tree and a matrix: the report, or the refusal that all characters afresh gives
 pub data Scored (n c : ℕ) (r : Resolve) (tree matrix : List ℕ) : List ℕ → Type 0 where
   report : (s : Scores) (found : ℕ → Found) → Means n c r tree matrix s found → Scored n c r tree matrix (report_text n c r s found)
-  refusal : (q : Refusal) → Refuses (matrix_checks n c tree matrix []) q → Scored n c r tree matrix (refused_line q.number q.place)
+  refusal : (q : Refusal) → Refuses (matrix_checks n c tree matrix []) q → Scored n c r tree matrix (refused_line (number q) q.place)
 
 -- what is written of a text: that of the sheet which it is, or the refusal of a text that is none
 pub data Says (text : List ℕ) : List ℕ → Type 0 where
   sheet : (s : Sheet) → IsSheet text s → (written : List ℕ)
       → Scored s.taxa s.characters (choice s.last) s.ancestors (flatten s.rows) written → Says text written
-  none : (q : Refusal) → Refuses (text_checks text) q → Says text (refused_line q.number q.place)
+  none : (q : Refusal) → Refuses (text_checks text) q → Says text (refused_line (number q) q.place)
 
 -- ---- the call
 
@@ -57,6 +56,6 @@ abbrev pub out_slice : List ℕ → Slice
 out_slice out = record { has = length out; asked = 524288 }
 
 -- the answer, and what the lent slice holds afterwards: on a refusal what it held before
-abbrev pub Reports : (text out out' : List ℕ) → ReportAnswer → Type 0
-Reports text out out' (Written size) = (length out ≡ 524288) × Prints text out out' size
-Reports text out out' (Refused q) = Refuses (slices 1 (out_slice out ∷ [])) q × (out' ≡ out)
+abbrev pub Reports : (text out out' : List ℕ) → Result ℕ Refusal → Type 0
+Reports text out out' (Ok size) = (length out ≡ 524288) × Prints text out out' size
+Reports text out out' (Err q) = Refuses (slices 1 (out_slice out ∷ [])) q × (out' ≡ out)

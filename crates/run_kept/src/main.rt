@@ -8,333 +8,210 @@
 // 13 and 17; slices that receive final ranges hold 60000 in each entry.
 #![tactic(auto)]
 
-mod building;
-mod reading;
-mod writing;
-
-ghost use Rattle.std.specs.Prelude.{◌≡◌, ◌≤◌, ◌<◌, min, length};
-
-use refusals::wide;
+use cases::{Cases, List, digest};
+use refusals::Refusal;
 use std::io;
 
-// ---- what is asked of a table
-
-fn ask_character(
-    rt: &impl Print,
+// What a table is kept of. Each list has a lifetime of its own: with one for both, the borrow checker does not cover `correct`.
+#[derive(Drop)]
+struct Data<'t, 'm> {
     n: usize,
     c: usize,
-    character: usize,
-    tree: &[u16],
-    matrix: &[u16],
-    lows: &[u16],
-    highs: &[u16],
-    lengths: &[u32],
-    final_lows: &mut [u16],
-    final_highs: &mut [u16],
-) -> io::Result<()> {
-    let length = kept_characters::kept_character(
-        n,
-        c,
-        character,
-        tree,
-        matrix,
-        lows,
-        highs,
-        lengths,
-        final_lows,
-        final_highs,
-    );
-    writing::put_length(rt, "\n  character ", length)?;
-    writing::put_digest(rt, " final lows=", final_lows)?;
-    writing::put_digest(rt, " final highs=", final_highs)
+    tree: &'t [u16],
+    matrix: &'m mut [u16],
 }
 
-fn lend_finals(
-    rt: &impl Print,
-    n: usize,
-    c: usize,
-    character: usize,
-    tree: &[u16],
-    matrix: &[u16],
-    lows: &[u16],
-    highs: &[u16],
-    lengths: &[u32],
-    i: usize,
-    j: usize,
-    final_lows: &mut [u16],
-    final_highs: &mut [u16],
-) -> io::Result<()>
-    requires { (i ≤ length final_lows.old) × (j ≤ length final_highs.old) }
-{
-    ask_character(
-        rt,
-        n,
-        c,
-        character,
-        tree,
-        matrix,
-        lows,
-        highs,
-        lengths,
-        &mut final_lows[..i],
-        &mut final_highs[..j],
-    )
+// The slices of a table.
+#[derive(Drop)]
+struct Table<'a> {
+    lows: &'a mut [u16],
+    highs: &'a mut [u16],
+    lengths: &'a mut [u32],
 }
 
-fn ask(
-    rt: &impl Print,
-    n: usize,
-    c: usize,
-    character: usize,
-    i: usize,
-    j: usize,
-    tree: &[u16],
-    matrix: &[u16],
-    lows: &[u16],
-    highs: &[u16],
-    lengths: &[u32],
-) -> io::Result<()> {
-    let length = kept::kept_length(n, c, tree, matrix, lows, highs, lengths);
-    writing::put_length(rt, "\n  tree ", length)?;
-    let mut final_lows = building::room(60000);
-    let mut final_highs = building::room(60000);
-    lend_finals(
-        rt,
-        n,
-        c,
-        character,
-        tree,
-        matrix,
-        lows,
-        highs,
-        lengths,
-        reading::least(i, 2500),
-        reading::least(j, 2500),
-        &mut final_lows,
-        &mut final_highs,
-    )?;
-    print!(rt; "\n")
-}
-
-// ---- a table and its corrections
-
-fn correct(
-    rt: &impl Print,
-    n: usize,
-    c: usize,
-    text: &[u8],
-    at: usize,
-    tree: &[u16],
-    matrix: &mut [u16],
-    lows: &mut [u16],
-    highs: &mut [u16],
-    lengths: &mut [u32],
-) -> io::Result<usize> {
-    let taxon = reading::next_number(text, at);
-    let character = reading::next_number(text, taxon.next);
-    let state = reading::next_number(text, character.next);
-    let i = reading::next_number(text, state.next);
-    let j = reading::next_number(text, i.next);
-    let count = kept::correct(
-        n,
-        c,
-        wide(taxon.value),
-        wide(character.value),
-        state.value,
-        tree,
-        matrix,
-        lows,
-        highs,
-        lengths,
-    );
-    writing::put_count(rt, count)?;
-    writing::put_digest(rt, " matrix=", matrix)?;
-    writing::put_table(rt, lows, highs, lengths)?;
-    building::build_fresh(
-        rt,
-        n,
-        c,
-        tree,
-        matrix,
-        lows.len(),
-        highs.len(),
-        lengths.len(),
-    )?;
-    ask(
-        rt,
-        n,
-        c,
-        wide(character.value),
-        wide(i.value),
-        wide(j.value),
-        tree,
-        matrix,
-        lows,
-        highs,
-        lengths,
-    )?;
-    Ok(j.next)
-}
-
-fn corrections(
-    rt: &impl Print,
-    n: usize,
-    c: usize,
-    text: &[u8],
-    at: usize,
-    tree: &[u16],
-    matrix: &mut [u16],
-    lows: &mut [u16],
-    highs: &mut [u16],
-    lengths: &mut [u32],
-) -> io::Result<usize> {
-    let count = reading::next_number(text, at);
-    let mut next = count.next;
-    for _ in 0..count.value {
-        next = correct(rt, n, c, text, next, tree, matrix, lows, highs, lengths)?;
+// What a call answered: a number, after its name, or a refusal.
+fn put_number(rt: &impl Print, name: &str, answer: Result<u32, Refusal>) -> io::Result<()> {
+    match answer {
+        Ok(number) => print!(rt; "{name}={number}"),
+        Err(refusal) => print!(rt; "refused={refusal}"),
     }
-    writing::put_entries(rt, lows, highs, lengths)?;
-    Ok(next)
 }
 
-// Builds the table, or reads it.
-fn make_table(
-    rt: &impl Print,
-    n: usize,
-    c: usize,
-    text: &[u8],
-    at: usize,
-    tree: &[u16],
-    matrix: &[u16],
-    lows: &mut [u16],
-    highs: &mut [u16],
-    lengths: &mut [u32],
-) -> io::Result<usize> {
-    let given = reading::next_number(text, at);
-    if given.value == 0 {
-        building::build(rt, "", n, c, tree, matrix, lows, highs, lengths)?;
-        print!(rt; "\n")?;
-        return Ok(given.next);
+impl Table<'_> {
+    // What building it answers, and the digests.
+    fn build(&mut self, rt: &impl Print, data: &Data<'_, '_>) -> io::Result<()> {
+        match kept::build(
+            data.n,
+            data.c,
+            data.tree,
+            data.matrix,
+            self.lows,
+            self.highs,
+            self.lengths,
+        ) {
+            Ok(()) => print!(rt; "built")?,
+            Err(refusal) => print!(rt; "refused={refusal}")?,
+        }
+        self.put_digests(rt)
     }
-    let after_lows = reading::read_list(text, given.next, lows);
-    let after_highs = reading::read_list(text, after_lows, highs);
-    Ok(reading::read_lengths(text, after_highs, lengths))
-}
 
-fn table_and_corrections(
-    rt: &impl Print,
-    n: usize,
-    c: usize,
-    text: &[u8],
-    at: usize,
-    tree: &mut [u16],
-    matrix: &mut [u16],
-    lows: &mut [u16],
-    highs: &mut [u16],
-    lengths: &mut [u32],
-) -> io::Result<usize> {
-    let after_tree = reading::read_list(text, at, tree);
-    let after_matrix = reading::read_list(text, after_tree, matrix);
-    let after_table = make_table(
-        rt,
-        n,
-        c,
-        text,
-        after_matrix,
-        tree,
-        matrix,
-        lows,
-        highs,
-        lengths,
-    )?;
-    corrections(
-        rt,
-        n,
-        c,
-        text,
-        after_table,
-        tree,
-        matrix,
-        lows,
-        highs,
-        lengths,
-    )
-}
-
-fn lend(
-    rt: &impl Print,
-    n: usize,
-    c: usize,
-    text: &[u8],
-    at: usize,
-    i: usize,
-    j: usize,
-    k: usize,
-    l: usize,
-    p: usize,
-    tree: &mut [u16],
-    matrix: &mut [u16],
-    lows: &mut [u16],
-    highs: &mut [u16],
-    lengths: &mut [u32],
-) -> io::Result<usize>
-    requires { (i ≤ length tree.old) × (j ≤ length matrix.old) × (k ≤ length lows.old) × (l ≤ length highs.old) × (p ≤ length lengths.old) }
-{
-    table_and_corrections(
-        rt,
-        n,
-        c,
-        text,
-        at,
-        &mut tree[..i],
-        &mut matrix[..j],
-        &mut lows[..k],
-        &mut highs[..l],
-        &mut lengths[..p],
-    )
-}
-
-fn one_table(rt: &impl Print, text: &[u8], at: usize) -> io::Result<usize> {
-    let n = reading::next_number(text, at);
-    let c = reading::next_number(text, n.next);
-    let mut lens = [0u16; 5];
-    let next = reading::read_list(text, c.next, &mut lens);
-    let mut tree = building::room(0);
-    let mut matrix = building::room(0);
-    let mut lows = building::room(11);
-    let mut highs = building::room(13);
-    let mut lengths = building::length_room(17);
-    lend(
-        rt,
-        wide(n.value),
-        wide(c.value),
-        text,
-        next,
-        reading::least(wide(lens[0]), 2500),
-        reading::least(wide(lens[1]), 2500),
-        reading::least(wide(lens[2]), 2500),
-        reading::least(wide(lens[3]), 2500),
-        reading::least(wide(lens[4]), 2500),
-        &mut tree,
-        &mut matrix,
-        &mut lows,
-        &mut highs,
-        &mut lengths,
-    )
-}
-
-fn run(rt: &impl Print, text: &[u8]) -> io::Result<()> {
-    let mut at: usize = 0;
-    for _ in 0..text.len() {
-        if at < text.len() {
-            at = one_table(rt, text, at)?;
+    // The low ends, the high ends and the lengths, as they are given.
+    fn read(&mut self, cases: &mut Cases<'_>) {
+        cases.fill(self.lows);
+        cases.fill(self.highs);
+        for length in self.lengths.iter_mut() {
+            let above = u32::from(cases.number());
+            *length = above * 65536 + u32::from(cases.number());
         }
     }
-    Ok(())
+
+    fn put_digests(&self, rt: &impl Print) -> io::Result<()> {
+        print!(rt;
+            " lows={} highs={} lengths={}",
+            digest(self.lows, 0, 1),
+            digest(self.highs, 0, 1),
+            digest(self.lengths, 0, 1)
+        )
+    }
+
+    // In full, if there are at most 40 entries.
+    fn put_entries(&self, rt: &impl Print) -> io::Result<()> {
+        if self.lows.len() <= 40 {
+            println!(rt;
+                "lows{}\nhighs{}\nlengths{}",
+                List(self.lows),
+                List(self.highs),
+                List(self.lengths)
+            )?;
+        }
+        Ok(())
+    }
+
+    // A table of the same lengths, built beside this one.
+    fn build_afresh(&self, rt: &impl Print, data: &Data<'_, '_>) -> io::Result<()> {
+        let lows = &mut [0u16; 2500][..self.lows.len().min(2500)];
+        let highs = &mut [0u16; 2500][..self.highs.len().min(2500)];
+        let lengths = &mut [0u32; 2500][..self.lengths.len().min(2500)];
+        let mut fresh = Table {
+            lows,
+            highs,
+            lengths,
+        };
+        print!(rt; "\n  fresh ")?;
+        fresh.build(rt, data)
+    }
+
+    // The tree's length, and a character's with its final ranges.
+    fn ask(
+        &self,
+        rt: &impl Print,
+        data: &Data<'_, '_>,
+        character: usize,
+        final_lows: &mut [u16],
+        final_highs: &mut [u16],
+    ) -> io::Result<()> {
+        let length = kept::kept_length(
+            data.n,
+            data.c,
+            data.tree,
+            data.matrix,
+            self.lows,
+            self.highs,
+            self.lengths,
+        );
+        print!(rt; "\n  tree ")?;
+        put_number(rt, "length", length)?;
+        let length = kept_characters::kept_character(
+            data.n,
+            data.c,
+            character,
+            data.tree,
+            data.matrix,
+            self.lows,
+            self.highs,
+            self.lengths,
+            final_lows,
+            final_highs,
+        );
+        print!(rt; "\n  character ")?;
+        put_number(rt, "length", length)?;
+        println!(rt;
+            " final lows={} final highs={}",
+            digest(final_lows, 0, 1),
+            digest(final_highs, 0, 1)
+        )
+    }
+
+    // One correction, and what is asked afterwards.
+    fn correct(
+        &mut self,
+        rt: &impl Print,
+        data: &mut Data<'_, '_>,
+        cases: &mut Cases<'_>,
+    ) -> io::Result<()> {
+        let taxon = usize::from(cases.number());
+        let character = usize::from(cases.number());
+        let state = cases.number();
+        let final_lows = &mut [60000u16; 2500][..cases.at_most(2500)];
+        let final_highs = &mut [60000u16; 2500][..cases.at_most(2500)];
+        let count = kept::correct(
+            data.n,
+            data.c,
+            taxon,
+            character,
+            state,
+            data.tree,
+            data.matrix,
+            self.lows,
+            self.highs,
+            self.lengths,
+        );
+        put_number(rt, "rewritten", count)?;
+        print!(rt; " matrix={}", digest(data.matrix, 0, 1))?;
+        self.put_digests(rt)?;
+        self.build_afresh(rt, data)?;
+        self.ask(rt, data, character, final_lows, final_highs)
+    }
+}
+
+fn one_case(rt: &impl Print, cases: &mut Cases<'_>) -> io::Result<()> {
+    let n = usize::from(cases.number());
+    let c = usize::from(cases.number());
+    let tree = &mut [0u16; 2500][..cases.at_most(2500)];
+    let matrix = &mut [0u16; 2500][..cases.at_most(2500)];
+    let lows = &mut [11u16; 2500][..cases.at_most(2500)];
+    let highs = &mut [13u16; 2500][..cases.at_most(2500)];
+    let lengths = &mut [17u32; 2500][..cases.at_most(2500)];
+    cases.fill(tree);
+    cases.fill(matrix);
+    let mut data = Data { n, c, tree, matrix };
+    let mut table = Table {
+        lows,
+        highs,
+        lengths,
+    };
+    if cases.number() == 0 {
+        table.build(rt, &data)?;
+        println!(rt)?;
+    } else {
+        table.read(cases);
+    }
+    for _ in 0..cases.number() {
+        table.correct(rt, &mut data, cases)?;
+    }
+    table.put_entries(rt)
 }
 
 fn main(rt: HostRuntime) -> io::Result<()> {
     let mut text = [0u8; 65536];
     let length = inputs::read_full(&mut rt.stdin(), &mut text)?;
-    run(&rt, &text[..length])
+    let mut cases = Cases::new(&text[..length]);
+    // Each case takes a byte or more. A `while` would be no plainer: that it ends would have to be said by a clause of each function here.
+    for _ in 0..length {
+        if cases.are_read() {
+            break;
+        }
+        one_case(&rt, &mut cases)?;
+    }
+    Ok(())
 }

@@ -77,8 +77,6 @@ pub fn sum_or(
             reason: Reason::Kept,
             place: node as u32,
         }),
-        None => Ok(sum_lengths(
-            n, c, root, top, matrix, lows, highs, lengths,
-        )),
+        None => Ok(sum_lengths(n, c, root, top, matrix, lows, highs, lengths)),
     }
 }

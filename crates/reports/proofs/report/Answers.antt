@@ -8,4 +8,4 @@ use Rattle.reports.proofs.report.Goals as goal
 pub returns : goal.returns
 returns c =
     let long : length c.args.out.now ≡ 524288 = omega arith in
-    (long, printed c.args.text.now c.args.out.now _ _ long c.put_all.ensures)
+    (long, printed c.args.text.now c.args.out.now _ _ long c.put_text.ensures)
