@@ -65,7 +65,7 @@ pub fn mend_path(
     ensures { Mended n c character taxon tree.now matrix.now lows.old highs.old lengths.old
         lows.new highs.new lengths.new }
 {
-    // By the index: over `&path.nodes[..path.count]` the edit nothing_mended would be refused for a name that is gone, and not for a fact.
+    // By the index: for `&path.nodes[..path.count]` the check leaves its bound open, under a name that it says may change.
     for i in 0..path.count {
         let node = usize::from(path.nodes[i]);
         mend_node(n, c, character, node, matrix, shape, lows, highs, lengths);
