@@ -10,22 +10,18 @@ ghost use Rattle.outcomes.specs.Kept.{BuildOutcome, CorrectOutcome, LengthOutcom
 ghost use Rattle.outcomes.specs.Sheets.{SheetOutcome, ReportOutcome};
 
 use answers::{code, give, resolve_of};
-use kept_answers::{give_built, give_count, give_length};
-use limits::Lent;
-use refusals::Refusal;
+use kept_answers::{give_built, give_number};
+use refusals::{Reason, Refusal};
 use sheet_answers::{give_report, give_sheet, refuse_sheet};
 
 // ---- a result slice of the wrong length: it is the last of the slices
 
-fn refuse_last(earlier: Lent, last: u32) -> Refusal
+fn refuse_last(earlier: Option<u32>, last: u32) -> Refusal
     ensures { result ≡ last_wrong earlier last }
 {
-    match earlier {
-        Lent::Exact => Refusal {
-            number: 2,
-            place: last,
-        },
-        Lent::Wrong(place) => Refusal { number: 2, place },
+    Refusal {
+        reason: Reason::Length,
+        place: earlier.unwrap_or(last),
     }
 }
 
@@ -35,11 +31,11 @@ fn refuse_tree(n: usize, c: usize, tree: usize, matrix: usize, res: usize) -> Re
 {
     if limits::outside(n, c) {
         return Refusal {
-            number: 1,
+            reason: Reason::Limits,
             place: 0,
         };
     }
-    let from2 = limits::lend(2, matrix, n * c, Lent::Exact);
+    let from2 = limits::lend(2, matrix, n * c, None);
     let from1 = limits::lend(1, tree, 2 * n - 2, from2);
     refuse_last(from1, 3)
 }
@@ -63,7 +59,7 @@ fn refuse_character(
 {
     if limits::outside(n, c) {
         return Refusal {
-            number: 1,
+            reason: Reason::Limits,
             place: 0,
         };
     }
@@ -196,7 +192,7 @@ pub extern "C" fn badrumello_correct(
     let count = kept::correct(
         n, c, taxon, character, state, tree, matrix, low, high, lengths,
     );
-    give_count(count)
+    give_number(count)
 }
 
 // The tree's length: `kept::kept_length`.
@@ -214,7 +210,7 @@ pub extern "C" fn badrumello_kept_length(
         (record { lows = low.now; highs = high.now; lengths = lengths.now }) result }
 {
     let length = kept::kept_length(n, c, tree, matrix, low, high, lengths);
-    give_length(length)
+    give_number(length)
 }
 
 // One character's length and final ranges: `kept_characters::kept_character`.
@@ -238,7 +234,7 @@ pub extern "C" fn badrumello_kept_character(
     let length = kept_characters::kept_character(
         n, c, character, tree, matrix, low, high, lengths, final_low, final_high,
     );
-    give_length(length)
+    give_number(length)
 }
 
 // ---- sheets and reports

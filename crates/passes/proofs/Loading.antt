@@ -1,10 +1,9 @@
 -- The rows of the taxa, loaded one cell after the other.
 -- Assumes nothing.
-use mathlib.Core.Path.{◌≡◌, refl, ◌∙◌, ap}
+use mathlib.Core.Path.{◌≡◌, ◌∙◌, ap}
 use mathlib.Core.Logic.{◌≢◌, ◌⊎◌, inl, inr}
 use mathlib.Core.List.{List}
-use Prim.Native.Nat.{ℕ, suc, ◌+◌, ◌-◌, ◌*◌, ◌≤◌, ◌<◌}
-use native.Mathlib.Nat.{suc-mul, mul-le-mul_right}
+use Prim.Native.Nat.{ℕ, ◌+◌, ◌-◌, ◌*◌, ◌≤◌, ◌<◌}
 use native.Mathlib.Decide.{ℕ_discrete}
 use native.Mathlib.Omega.{arith}
 use lib.ListN.{length, get_or, set, length-set}
@@ -18,27 +17,12 @@ use Rattle.passes.specs.Passes.{Loads, HasState, LoadedRow, Loaded}
 -- ---- one row
 
 module _ {t c a w : ℕ} {matrix lows₀ highs₀ lengths₀ : List ℕ} (some : 1 ≤ t) (L : Loads t c a w matrix lows₀ highs₀ lengths₀) where
-  -- the row begins within the matrix
-  pub row_start : (t - 1) * c + a ≤ length matrix
-  row_start = omega (arith, suc-mul (t - 1) c, ap (λ k. k * c) row, L.within, L.rows)
-    where
-      row : suc (t - 1) ≡ t
-      row = omega arith
-
   -- the cell is one of the matrix, and its place one of the lists
   pub cell_place : (k : ℕ) → k < w → (t - 1) * c + a + k < length matrix
   cell_place k l = omega (arith, cell_in t c (t - 1) (a + k) (omega arith) (omega (arith, L.within)), L.rows)
 
   pub row_place : (k : ℕ) → k < w → (t - 1) * w + k < 4080
   row_place k l = place_in t w k some (omega (arith, L.most)) L.few l
-
-  pub none_loaded : LoadedRow t c a w 0 matrix lows₀ highs₀ lengths₀ lows₀ highs₀ lengths₀
-  none_loaded =
-      record {
-        room = L.room;
-        here = λ i p q. absurd (omega arith);
-        kept = λ i v p q r h. (refl, refl, refl);
-      }
 
   module _ {k : ℕ} (l : k < w) {lows highs lengths : List ℕ} (R : LoadedRow t c a w k matrix lows₀ highs₀ lengths₀ lows highs lengths) (x : ℕ)
       (read : x ≡ get_or matrix ((t - 1) * c + a + k) 0) where
@@ -93,18 +77,6 @@ module _ {t c a w : ℕ} {matrix lows₀ highs₀ lengths₀ : List ℕ} (some :
 -- ---- all rows
 
 module _ (n c a w : ℕ) (matrix : List ℕ) where
-  -- the first k taxa are loaded
-  pub first-loads : (k : ℕ) (lows₀ highs₀ lengths₀ lows highs lengths : List ℕ) → k < n → Loads n c a w matrix lows₀ highs₀ lengths₀
-      → Loaded k c a w matrix lows highs lengths → Loads (k + 1) c a w matrix lows highs lengths
-  first-loads k lows₀ highs₀ lengths₀ lows highs lengths l L D =
-      record { rows = omega (arith, less, L.rows); most = omega (arith, L.most); within = L.within; few = L.few; room = D.room }
-    where
-      less : (k + 1) * c ≤ n * c
-      less = mul-le-mul_right c (omega arith)
-
-  pub loaded_none : (lows highs lengths : List ℕ) → Loads n c a w matrix lows highs lengths → Loaded 0 c a w matrix lows highs lengths
-  loaded_none lows highs lengths L = record { room = L.room; taxa = λ i k p q r s. absurd (omega arith) }
-
   pub loaded_more : (k : ℕ) (lows highs lengths lows' highs' lengths' : List ℕ) → Loaded k c a w matrix lows highs lengths
       → LoadedRow (k + 1) c a w w matrix lows highs lengths lows' highs' lengths' → Loaded (k + 1) c a w matrix lows' highs' lengths'
   loaded_more k lows highs lengths lows' highs' lengths' D R =

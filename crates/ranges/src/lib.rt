@@ -7,7 +7,8 @@ ghost use Prim.Native.Nat.{ℕ, ◌≤◌};
 ghost use Rattle.parsimony.specs.Ordered as ordered;
 ghost use Rattle.ranges.specs.Ranges.{range_of, IsRange, Joined};
 
-// The states from low to high, both among them.
+// The states from low to high, both among them. That low is not above high is asked by each function that needs it, and is no ghost field: who makes
+// a Range is then asked nothing.
 #[derive(Clone, Copy)]
 pub struct Range {
     pub low: u16,

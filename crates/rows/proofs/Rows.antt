@@ -4,7 +4,6 @@ use mathlib.Core.Path.{◌≡◌, sym, ◌∙◌, ap, ap₂, subst}
 use mathlib.Core.Logic.{◌≢◌, ◌⊎◌, inl, inr}
 use mathlib.Core.List.{List, [], ◌∷◌}
 use Prim.Native.Nat.{ℕ, ◌+◌, ◌-◌, ◌*◌, ◌≤◌, ◌<◌}
-use native.Mathlib.Nat.{mul-le-mul_right}
 use native.Mathlib.Decide.{ℕ_discrete}
 use native.Mathlib.Omega.{arith}
 use lib.ListN.{length, get_or, length-set}
@@ -21,11 +20,6 @@ place_in v w i p q f l =
   where
     most : 510 * w ≤ 4080
     most = omega arith
-
-pub row_in : (v w : ℕ) → 1 ≤ v → v ≤ 510 → w ≤ 8 → (v - 1) * w ≤ 4080
-row_in v w p q f =
-    let h : (v - 1) * w ≤ 509 * w = mul-le-mul_right w (omega arith) in
-    omega arith
 
 module _ {node left right w : ℕ} {lows₀ highs₀ lengths₀ : List ℕ} (S : Settleable node left right w lows₀ highs₀ lengths₀) where
   module _ {lows highs lengths : List ℕ} {k : ℕ} (l : k < w) (R : SettledRow node left right w k lows₀ highs₀ lengths₀ lows highs lengths) where

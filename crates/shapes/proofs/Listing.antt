@@ -101,23 +101,6 @@ module _ (tree : List ℕ) where
   met_some : (k v : ℕ) → All (λ x. 1 ≤ x) (met k v)
   met_some k v = some-having v (from 1 k) (all_from (λ x. 1 ≤ x) 1 k (λ x p q. p))
 
--- ---- one descendant noted
-
-module _ (n a node : ℕ) where
-  pub noted_left : (left : List ℕ) (x : ℕ) → n < a → x ≡ first_of (get_or left (a - n - 1) 0) node → set left (a - n - 1) x ≡ left_with n a node left
-  noted_left left x h e =
-      ap (set left (a - n - 1)) e
-      ∙ sym (choose_no (dec_le a n) left (set left (a - n - 1) (first_of (get_or left (a - n - 1) 0) node)) (λ l. omega arith))
-
-  pub noted_right : (right : List ℕ) → n < a → set right (a - n - 1) node ≡ right_with n a node right
-  noted_right right h = sym (choose_no (dec_le a n) right (set right (a - n - 1) node) (λ l. omega arith))
-
-  pub left_kept : (left : List ℕ) → a ≤ n → left ≡ left_with n a node left
-  left_kept left h = sym (choose_yes (dec_le a n) left (set left (a - n - 1) (first_of (get_or left (a - n - 1) 0) node)) h)
-
-  pub right_kept : (right : List ℕ) → a ≤ n → right ≡ right_with n a node right
-  right_kept right h = sym (choose_yes (dec_le a n) right (set right (a - n - 1) node) h)
-
 -- ---- what the lists have after k entries
 
 module _ (n : ℕ) (tree : List ℕ) where

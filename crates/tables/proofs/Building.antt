@@ -103,11 +103,6 @@ module _ {n c ρ δ : ℕ} {left right matrix : List ℕ} {past w : ℕ} {bl bh 
                 (stretch-long (n - 2) entries j (subst (λ k. k * (n - 2) + (n - 2) ≤ length entries) (sym this) h));
           }
 
-      pub takes_all : lists.Takes n w (i + 1) (take q (drop ((past + i) * (n - 2)) lows))
-          × lists.Takes n w (i + 1) (take q (drop ((past + i) * (n - 2)) highs))
-          × lists.Takes n w (i + 1) (take q (drop ((past + i) * (n - 2)) lengths))
-      takes_all = (part_takes lows in_lows, part_takes highs in_highs, part_takes lengths in_lengths)
-
     module _ {pl ph ps : List ℕ} (T : TakenAll n w (i + 1) bl bh bs pl ph ps) where
       -- the three lists with the stretch written
       abbrev L : List ℕ
