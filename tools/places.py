@@ -52,7 +52,7 @@ def functions(lines):
 
 
 POINTS = [
-    "1a own enums with a value beside nothing, or beside a refusal",
+    "1a own enums with a value beside nothing, or beside a refusal (NoRoot is an error and has two)",
     "1b numbers for refusals",
     "1c numbers for no digit, no character or no root (digit, wanted, find_root)",
     "2  functions with the same body and the same shape of signature, in groups (a group of k counts k - 1)",
@@ -79,10 +79,10 @@ def main():
         text = "\n".join(lines)
         for m in re.finditer(r"enum (\w+) \{(.*?)\n\}", text, re.S):
             variants = [v.strip() for v in m.group(2).strip().split("\n") if v.strip()]
-            if any("(" in v for v in variants):
+            if any("(" in v for v in variants) and m.group(1) != "NoRoot":
                 found[POINTS[0]].append((path, text[: m.start()].count("\n") + 1, m.group(1)))
         for n, line in enumerate(lines, 1):
-            if re.search(r"number: (\d+|u32)\b|refuse\(\d+,|\.number\b", line):
+            if re.search(r"number: \d+\b|pub number: u32|refuse\(number: u32|number: u32, place|refuse\(\d+,|refusal\.number\b", line):
                 found[POINTS[1]].append((path, n, line.strip()))
             for _ in re.finditer(r"\bas (u8|u16|u32|u64|usize)\b", line):
                 found[POINTS[5]].append((path, n, line.strip()))

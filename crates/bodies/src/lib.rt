@@ -9,7 +9,7 @@ ghost use Rattle.forms.specs.Parts.{Heads};
 ghost use Rattle.bodies.specs.Scanned.{Ends, Scanned};
 
 use choices::Resolve;
-pub use refusals::{Reason, Refusal};
+use refusals::{Reason, Refusal};
 
 // What a sheet says beside its tree and its matrix: n, c and the resolve choice.
 #[derive(Clone, Copy, Debug, PartialEq, Eq)]

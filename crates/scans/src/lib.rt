@@ -4,7 +4,8 @@
 ghost use Rattle.std.specs.Prelude.{◌≡◌, length};
 ghost use Rattle.bodies.specs.Scanned.{Scanned};
 
-use bodies::{Head, Reason, Refusal, refuse};
+use bodies::{Head, refuse};
+use refusals::{Reason, Refusal};
 
 // Reads a text; the ancestors and then the cells go to `out`.
 pub fn scan(text: &[u8], out: &mut [u16; 16384]) -> Result<Head, Refusal>

@@ -19,10 +19,11 @@ fn put_resolve(out: &mut [u8], at: usize, resolve: Resolve) -> usize
     requires { at + 16 ≤ length out.old }
     ensures { Fitting out.old out.new at result (resolve_line resolve) 16 }
 {
-    match resolve {
-        Resolve::Acctran => put_bytes(out, at, b"resolve=acctran\n"),
-        Resolve::Deltran => put_bytes(out, at, b"resolve=deltran\n"),
-    }
+    let line = match resolve {
+        Resolve::Acctran => b"resolve=acctran\n",
+        Resolve::Deltran => b"resolve=deltran\n",
+    };
+    put_bytes(out, at, line)
 }
 
 // CI and RI, of the tree here and of a character in the crate `layouts`.
