@@ -34,7 +34,7 @@ pub fn put_count(out: &mut [u8], at: usize, key: &[u8], v: u32) -> usize
 
 // ---- an index
 
-// A fraction in thousandths, halves up.
+// A fraction in thousandths, halves up. They fit, so `as` loses nothing: there is no `From<u64>` for u32.
 fn thousandths(fraction: Fraction) -> u32
     requires { AtMost fraction.over fraction.under }
     ensures { result ≡ text.thousandths fraction.over fraction.under }

@@ -38,6 +38,7 @@ fn put_nodes(
 }
 
 // The seven lines for a character. Nothing of them depends on the subtree lengths, so here too the contract has none.
+// The five lists stay parameters: `Results` and the slices of `one_character` name each by itself.
 pub fn put_character(
     out: &mut [u8],
     at: usize,

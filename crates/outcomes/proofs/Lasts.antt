@@ -121,8 +121,8 @@ module _ (n c : ℕ) (tree matrix result : List ℕ) (q : Refusal) (r : ℕ) (co
       }
 
 -- what the call behind answers, with an exact result slice
-module _ (n c : ℕ) (tree matrix result : List ℕ) (exact : length result ≡ 7) (a : Result Scores Refusal) (after : List ℕ) (r : ℕ) (gives : Gives a result after r)
-  where
+module _ (n c : ℕ) (tree matrix result : List ℕ) (exact : length result ≡ 7) (a : Result Scores Refusal) (after : List ℕ) (r : ℕ)
+    (gives : Gives a result after r) where
     pub tree-given : AllAnswers n c tree matrix a → TreeOutcome n c tree matrix result after r
     tree-given h = record { answer = a; answers = tree-answers n c tree matrix result exact a h; gives = gives }
 

@@ -70,7 +70,7 @@ pub fn refuse_sheet(tree: usize, matrix: usize, res: usize) -> Refusal
 
 // ---- the report of a sheet
 
-// The number of bytes.
+// The number of bytes. There is no `From<usize>` for u64, so it is `as`.
 pub fn give_report(answer: Result<usize, Refusal>) -> u64
     requires { Short answer }
     ensures { Tells (of_report answer) result }

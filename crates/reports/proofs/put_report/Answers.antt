@@ -36,7 +36,10 @@ pub returns-in_err-scores : goal.returns-in_err-scores
 returns-in_err-scores c =
     let r = c.from_residual-in_err-scores in
     let p = err_from_is_err_and r.result r.ensures.1 in
-    rw (p.1, p.2) (refused-sheet c.in_ok-head.ensures _ (rw (c.from-n.ensures, c.from-c.ensures) at c.in_err-scores.ensures), refl)
+    rw (p.1, p.2) (
+      refused-sheet c.in_ok-head.ensures c.in_err-scores.field-0.0 (rw (← c.from-n.ensures, ← c.from-c.ensures) c.in_err-scores.ensures),
+      refl,
+    )
 
 pub put_tree-next-requires : goal.put_tree-next-requires
 put_tree-next-requires c =

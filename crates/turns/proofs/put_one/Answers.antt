@@ -30,7 +30,7 @@ found c =
 
 answered : (c : After-one_character-got)
     → OneAnswers c.args.n c.args.c c.args.character c.args.resolve c.args.tree.now c.args.matrix.now (lent c) (found c) c.one_character-got.result
-answered c = rw (← c.from.ensures, ← c.from-2.ensures, ← c.from-3.ensures) c.one_character-got.ensures
+answered c = rw (c.from.ensures, c.from-2.ensures, c.from-3.ensures) at c.one_character-got.ensures
 
 pub unwrap-scores-requires : goal.unwrap-scores-requires
 unwrap-scores-requires c =
