@@ -1,5 +1,5 @@
 -- The C functions of the kept table have one outcome each: from the contract alone, any two are equal, the number and what the lent slices hold afterwards.
--- One goes as the other; their answers are of different types.
+-- One goes as the other.
 -- Assumes nothing.
 use mathlib.Core.Path.{◌≡◌, ap}
 use mathlib.Core.List.{List}

@@ -1,4 +1,4 @@
--- What the steps of the call ask and leave.
+-- What the steps of the call leave, and the two halves of a report from which that follows.
 -- Assumes nothing.
 use Rattle.std.specs.Prelude.{◌≡◌, List, ℕ, ◌-◌, ◌*◌, ◌≤◌, length, Result, Ok, Err}
 use Rattle.refusals.specs.declared.Refusal.{Refusal}
