@@ -123,16 +123,16 @@ module _ (n c : ℕ) (tree matrix result : List ℕ) (q : Refusal) (r : ℕ) (co
 -- what the call behind answers, with an exact result slice
 module _ (n c : ℕ) (tree matrix result : List ℕ) (exact : length result ≡ 7) (a : Result Scores Refusal) (after : List ℕ) (r : ℕ)
     (gives : Gives a result after r) where
-    pub tree-given : AllAnswers n c tree matrix a → TreeOutcome n c tree matrix result after r
-    tree-given h = record { answer = a; answers = tree-answers n c tree matrix result exact a h; gives = gives }
+  pub tree-given : AllAnswers n c tree matrix a → TreeOutcome n c tree matrix result after r
+  tree-given h = record { answer = a; answers = tree-answers n c tree matrix result exact a h; gives = gives }
 
-    pub character-given : (j number : ℕ) (resolve : Resolve) → resolve ≡ resolve_of number → (before found : Results)
-        → OneAnswers n c j resolve tree matrix before found a → CharacterOutcome n c j number tree matrix before found result after r
-    character-given j number resolve e before found h =
-        record {
-          answer = a;
-          answers =
-              character-answers n c tree matrix result exact j (resolve_of number) before found a
-              (subst (λ k. OneAnswers n c j k tree matrix before found a) e h);
-          gives = gives;
-        }
+  pub character-given : (j number : ℕ) (resolve : Resolve) → resolve ≡ resolve_of number → (before found : Results)
+      → OneAnswers n c j resolve tree matrix before found a → CharacterOutcome n c j number tree matrix before found result after r
+  character-given j number resolve e before found h =
+      record {
+        answer = a;
+        answers =
+            character-answers n c tree matrix result exact j (resolve_of number) before found a
+            (subst (λ k. OneAnswers n c j k tree matrix before found a) e h);
+        gives = gives;
+      }
