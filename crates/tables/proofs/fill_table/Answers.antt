@@ -22,7 +22,8 @@ loop-i-preserved c =
 pub loop-done-preserved : goal.loop-done-preserved
 loop-done-preserved c =
     let B = builds_at {k' = c.loop-done.done} (omega arith) c.loop-done.invariant in
-    builds_at (omega arith) (builds_on (builds c.requires c.descendants-shape.ensures) B c.width-w.ensures c.first_pass.ensures (omega arith) c.loop-i.invariant)
+    let after = builds_on (builds c.requires c.descendants-shape.ensures) B c.width-w.ensures c.first_pass.ensures (omega arith) c.loop-i.invariant in
+    builds_at (omega arith) after
 
 pub returns : goal.returns
 returns c = table-means (builds c.requires c.descendants-shape.ensures) c.loop-done.invariant (omega arith)
