@@ -80,9 +80,13 @@ pub fn read_body(
     let rest = lines::read_rows(text, after_tree, taxa, usize::from(c), 4, out, nodes);
     let after_rows = rest.map_err(not_in_form)?;
     let last = read_end(text, after_rows, 4 + u32::from(n)).map_err(not_in_form)?;
-    Ok(Head {
-        n,
-        c,
-        resolve: last.unwrap_or(Resolve::Acctran),
-    })
+    // A `match` in place of `unwrap_or`: the edit `constant_answer` plants in its first arm.
+    match last {
+        Some(resolve) => Ok(Head { n, c, resolve }),
+        None => Ok(Head {
+            n,
+            c,
+            resolve: Resolve::Acctran,
+        }),
+    }
 }

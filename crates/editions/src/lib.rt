@@ -10,7 +10,7 @@ ghost use Rattle.outcomes.specs.Kept.{BuildOutcome, CorrectOutcome, LengthOutcom
 ghost use Rattle.outcomes.specs.Sheets.{SheetOutcome, ReportOutcome};
 
 use answers::{code, give, resolve_of};
-use kept_answers::{give_built, give_number};
+use kept_answers::{give_built, give_count, give_length};
 use refusals::{Reason, Refusal};
 use sheet_answers::{give_report, give_sheet, refuse_sheet};
 
@@ -192,7 +192,7 @@ pub extern "C" fn badrumello_correct(
     let count = kept::correct(
         n, c, taxon, character, state, tree, matrix, low, high, lengths,
     );
-    give_number(count)
+    give_count(count)
 }
 
 // The tree's length: `kept::kept_length`.
@@ -210,7 +210,7 @@ pub extern "C" fn badrumello_kept_length(
         (record { lows = low.now; highs = high.now; lengths = lengths.now }) result }
 {
     let length = kept::kept_length(n, c, tree, matrix, low, high, lengths);
-    give_number(length)
+    give_length(length)
 }
 
 // One character's length and final ranges: `kept_characters::kept_character`.
@@ -234,7 +234,7 @@ pub extern "C" fn badrumello_kept_character(
     let length = kept_characters::kept_character(
         n, c, character, tree, matrix, low, high, lengths, final_low, final_high,
     );
-    give_number(length)
+    give_length(length)
 }
 
 // ---- sheets and reports

@@ -112,10 +112,13 @@ pub fn correct(
     let from2 = limits::lend(2, matrix.len(), n * c, from3);
     let from1 = limits::lend(1, tree.len(), 2 * n - 2, from2);
     let looked = wanted(n, taxon, character);
-    checks::admit_character(n, c, looked, tree, matrix, from1)?;
-    table_corrections::correct_in(
-        n, c, taxon, character, state, tree, matrix, lows, highs, lengths,
-    )
+    // A `match` in place of a `?`: the edit `refused_and_acknowledged` plants in its second arm.
+    match checks::admit_character(n, c, looked, tree, matrix, from1) {
+        Ok(_) => table_corrections::correct_in(
+            n, c, taxon, character, state, tree, matrix, lows, highs, lengths,
+        ),
+        Err(refusal) => Err(refusal),
+    }
 }
 
 // ---- the kept tree length

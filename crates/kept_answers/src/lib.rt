@@ -27,3 +27,17 @@ pub fn give_number(answer: Result<u32, Refusal>) -> u64
         Err(refusal) => code(refusal),
     }
 }
+
+// How many entries a correction rewrote.
+pub fn give_count(count: Result<u32, Refusal>) -> u64
+    ensures { Tells (of_count count) result }
+{
+    give_number(count)
+}
+
+// A length.
+pub fn give_length(length: Result<u32, Refusal>) -> u64
+    ensures { Tells (of_length length) result }
+{
+    give_number(length)
+}

@@ -1,13 +1,12 @@
 -- Writing, a byte or a piece at a time.
 -- Assumes nothing.
 use mathlib.Core.Path.{◌≡◌, refl, sym, ap, ◌∙◌}
-use mathlib.Core.List.{List, [], ◌∷◌, ◌++◌, append_assoc}
+use mathlib.Core.List.{List, [], ◌∷◌, ◌++◌}
 use Prim.Native.Nat.{ℕ, suc, ◌+◌, ◌-◌, ◌/◌, ◌%◌, ◌≤◌, ◌<◌}
 use native.Mathlib.Omega.{arith}
 use native.Mathlib.Numerals.{add-one}
 use lib.ListN.{length, set, take, get_or, drop, drop_of_length-le, length-append}
-use lib.Seq.{sets, sets-eq, take-length, drop-drop, drop-cons}
-use borrow.Rule.Slice.PartMut.{put_mid}
+use lib.Seq.{sets, sets-eq, take-suc, length-take-le, take-length, drop-cons}
 use Rattle.numbers.specs.Printed.{decimal, continued, commas}
 use Rattle.numbers.proofs.Lists.{sets_append}
 use Rattle.numbers.proofs.Round.{decimal_split, decimal-one}
@@ -50,18 +49,15 @@ written-more before mid at next n h f =
     rw (decimal_split n h) (written_both (decimal (n / 10)) ((48 + n % 10) ∷ []) before mid _ at next (next + 1) f
     (written_byte mid next (48 + n % 10)))
 
--- a text copied over a part of the list
-pub written_part : (before text part : List ℕ) (at k : ℕ) → at + length text ≤ length before → part ≡ text → k ≡ length text
-    → Written before (put_mid at k before part) at (at + length text) text
-written_part before text part at k room e size =
-    record {
-      list =
-          ap (λ (l : List ℕ). put_mid at k before l) e
-          ∙ ap (λ (l : List ℕ). take at before ++ (text ++ l)) (drop-drop k at before ∙ ap (λ (m : ℕ). drop (at + m) before) size)
-          ∙ sym (append_assoc (take at before) text (drop (at + length text) before))
-          ∙ sym (sets-eq text before at room);
-      next_is = refl;
-    }
+-- one byte more of a text
+pub bytes_more : (out before : List ℕ) (at : ℕ) (text : List ℕ) (k : ℕ) → k < length text → out ≡ sets before at (take k text)
+    → set out (at + k) (get_or text k 0) ≡ sets before at (take (k + 1) text)
+bytes_more out before at text k h e =
+    let one : take (k + 1) text ≡ take k text ++ (get_or text k 0 ∷ []) = rw (add-one k) (take-suc text k 0 h) in
+    let size : length (take k text) ≡ k = length-take-le k text (omega arith) in
+    sym (ap (sets before at) one ∙ sets_append (take k text) before at (get_or text k 0 ∷ [])
+    ∙ ap (λ (m : ℕ). set (sets before at (take k text)) (at + m) (get_or text k 0)) size ∙ ap (λ (l : List ℕ). set l (at + k) (get_or text k 0))
+    (sym e))
 
 -- numbers with commas between
 

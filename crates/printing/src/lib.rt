@@ -24,9 +24,11 @@ pub fn put_bytes(out: &mut [u8], at: usize, text: &[u8]) -> usize
     requires { at + length text.now ≤ length out.old }
     ensures { Written out.old out.new at result text.now }
 {
-    let end = at + text.len();
-    out[at..end].copy_from_slice(text);
-    end
+    // A loop: with `copy_from_slice` here the archive for C would need `memmove` from outside.
+    for k in 0..text.len() {
+        out[at + k] = text[k];
+    }
+    at + text.len()
 }
 
 // Writes these numbers, with commas between.

@@ -5,3 +5,5 @@ pub mod Search
 pub mod Checks
 -- the numbers of the reasons
 pub mod Reasons
+-- how a refusal is printed
+pub mod Printed

@@ -1,7 +1,9 @@
 // What every layer shares: a refusal, which says its reason and its place.
 #![tactic(auto)]
 
+ghost use Rattle.std.specs.Prelude.{Some};
 ghost use Rattle.refusals.specs.Reasons.{Numbered};
+ghost use Rattle.refusals.specs.Printed.{refusal_text};
 
 use std::fmt;
 
@@ -63,6 +65,8 @@ pub struct Refusal {
 }
 
 impl fmt::Display for Refusal {
+    ghost output = { λ r. Some (refusal_text r) };
+
     fn fmt<W: fmt::Write>(&self, f: &mut fmt::Formatter<W>) -> fmt::Result {
         write!(f, "{},{}", u32::from(self.reason), self.place)
     }

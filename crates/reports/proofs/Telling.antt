@@ -44,6 +44,15 @@ module _ {n c : ℕ} {r : Resolve} {tree matrix before after : List ℕ} {size :
             (characters-room n c Z.limits.least Z.limits.few Z.few);
       }
 
+  pub whole-refused : (q : Refusal) → Refuses (matrix_checks n c tree matrix []) q
+      → Fitting before after 0 size (refused_line (number q) q.place) refused_room → Whole n c r tree matrix before after size
+  whole-refused q h f =
+      record {
+        written = refused_line (number q) q.place;
+        scored = refusal q h;
+        fitting = looser before after 0 size (refused_line (number q) q.place) refused_room 524288 f (omega arith);
+      }
+
 -- ---- a text
 
 module _ {text tree matrix : List ℕ} {n c : ℕ} {r : Resolve} {tree' matrix' : List ℕ} (R : Reads text tree matrix n c r tree' matrix') where
@@ -93,10 +102,6 @@ module _ {text tree matrix : List ℕ} {n c : ℕ} {r : Resolve} {tree' matrix' 
   pub told-sheet : {out out' : List ℕ} {size : ℕ} → Whole n c r (take (2 * n - 2) tree') (take (n * c) matrix') out out' size
       → Told text out out' size
   told-sheet W = record { written = W.written; says = sheet R.sheet R.is_sheet W.written (of_sheet W.scored); fitting = W.fitting }
-
-  pub refused-sheet : (q : Refusal) → Refuses (matrix_checks n c (take (2 * n - 2) tree') (take (n * c) matrix') []) q
-      → Says text (refused_line (number q) q.place)
-  refused-sheet q h = sheet R.sheet R.is_sheet (refused_line (number q) q.place) (of_sheet (refusal q h))
 
 -- a text that is no sheet: the slices are of the right lengths
 pub refused_text : (text tree matrix : List ℕ) → length tree ≡ 510 → length matrix ≡ 16384 → (q : Refusal) → Refuses (sheet_checks text tree matrix) q

@@ -1,12 +1,9 @@
--- What the steps of the call leave, and the two halves of a report from which that follows.
+-- What the steps of the call ask and leave.
 -- Assumes nothing.
-use Rattle.std.specs.Prelude.{◌≡◌, List, ℕ, ◌-◌, ◌*◌, ◌≤◌, length, Result, Ok, Err}
-use Rattle.refusals.specs.declared.Refusal.{Refusal}
-use Rattle.refusals.specs.Reasons.{number}
+use Rattle.std.specs.Prelude.{◌≡◌, List, ℕ, ◌-◌, ◌*◌, ◌≤◌, length}
 use Rattle.choices.specs.declared.Resolve.{Resolve}
 use Rattle.limits.specs.Limits.{InLimits}
 use Rattle.fields.specs.Fitting.{Fitting}
-use Rattle.summaries.specs.Report.{refused_line}
 use Rattle.reports.specs.Says.{Scored, Says}
 
 -- a tree and a matrix of the sizes that a sheet can have
@@ -27,8 +24,3 @@ pub record Told (text before after : List ℕ) (size : ℕ) : Type 0 where
   pub written : List ℕ
   pub says : Says text written
   pub fitting : Fitting before after 0 size written 524288
-
--- the same, unless the text, its tree or its matrix is refused: then the line of the refusal is what the text gets, and nothing is written
-abbrev pub Tried : (text before after : List ℕ) → Result ℕ Refusal → Type 0
-Tried text before after (Ok size) = Told text before after size
-Tried text before after (Err q) = Says text (refused_line (number q) q.place) × (after ≡ before)

@@ -4,25 +4,29 @@
 
 ghost use Rattle.std.specs.Prelude.{◌≡◌, length};
 ghost use Rattle.reports.specs.Says.{Reports};
-ghost use Rattle.reports.specs.Steps.{Told, Tried};
+ghost use Rattle.reports.specs.Steps.{Sized, Whole, Told};
 
+use bodies::Head;
 use refusals::{Reason, Refusal};
 
-// The report on a text that is a sheet, unless its tree or its matrix is refused; a text that is none is refused too.
-fn put_report(text: &[u8], out: &mut [u8]) -> Result<usize, Refusal>
-    requires { length out.old ≡ 524288 }
-    ensures { Tried text.now out.old out.new result }
+// The report on a sheet's tree and matrix, or the line of the refusal that they get. A `match` here and below: each of two edits plants in one of the
+// two places where a refusal's line is written.
+fn put_report(head: Head, tree: &[u16], matrix: &[u16], out: &mut [u8]) -> usize
+    requires { Sized head.n head.c tree.now matrix.now × (length out.old ≡ 524288) }
+    ensures { Whole head.n head.c head.resolve tree.now matrix.now out.old out.new result }
 {
-    let mut tree = [0u16; 510];
-    let mut matrix = [0u16; 16384];
-    let head = sheets::read_sheet(text, &mut tree, &mut matrix)?;
     let n = usize::from(head.n);
     let c = usize::from(head.c);
-    let nodes = &tree[..2 * n - 2];
-    let cells = &matrix[..n * c];
-    let scores = characters::all_characters(n, c, nodes, cells)?;
-    let next = summaries::put_tree(out, 0, head.n, head.c, scores, head.resolve);
-    Ok(turns::put_characters(head.n, head.c, head.resolve, nodes, cells, out, next))
+    match characters::all_characters(n, c, tree, matrix) {
+        Ok(scores) => {
+            let next = summaries::put_tree(out, 0, head.n, head.c, scores, head.resolve);
+            turns::put_characters(head.n, head.c, head.resolve, tree, matrix, out, next)
+        }
+        Err(refused) => {
+            let number = u32::from(refused.reason);
+            summaries::put_refusal(out, 0, number, refused.place)
+        }
+    }
 }
 
 // The report on a text, or the line of its refusal.
@@ -30,9 +34,18 @@ fn put_text(text: &[u8], out: &mut [u8]) -> usize
     requires { length out.old ≡ 524288 }
     ensures { Told text.now out.old out.new result }
 {
-    match put_report(text, out) {
-        Ok(size) => size,
-        Err(refusal) => summaries::put_refusal(out, 0, refusal),
+    let mut tree = [0u16; 510];
+    let mut matrix = [0u16; 16384];
+    match sheets::read_sheet(text, &mut tree, &mut matrix) {
+        Ok(head) => {
+            let n = usize::from(head.n);
+            let c = usize::from(head.c);
+            put_report(head, &tree[..2 * n - 2], &matrix[..n * c], out)
+        }
+        Err(refusal) => {
+            let number = u32::from(refusal.reason);
+            summaries::put_refusal(out, 0, number, refusal.place)
+        }
     }
 }
 

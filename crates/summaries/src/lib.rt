@@ -2,7 +2,6 @@
 #![tactic(auto)]
 
 ghost use Rattle.std.specs.Prelude.{◌+◌, ◌≤◌, length};
-ghost use Rattle.refusals.specs.Reasons.{number};
 ghost use Rattle.forms.specs.Sheets.{resolve_line};
 ghost use Rattle.summaries.specs.Report as text;
 ghost use Rattle.fields.specs.Fitting.{Fitting};
@@ -11,7 +10,6 @@ ghost use Rattle.summaries.specs.Rooms.{Indexed, index_room, tree_room, refused_
 use choices::Resolve;
 use fields::{put_byte, put_count, put_index};
 use printing::{put_bytes, put_number};
-use refusals::Refusal;
 use scores::Scores;
 
 // The resolve line.
@@ -54,16 +52,14 @@ pub fn put_tree(
     put_resolve(out, sixth, resolve)
 }
 
-// The line of a refusal.
-pub fn put_refusal(out: &mut [u8], at: usize, refusal: Refusal) -> usize
+// The line of a refusal, by its number and its place.
+pub fn put_refusal(out: &mut [u8], at: usize, number: u32, place: u32) -> usize
     requires { at + refused_room ≤ length out.old }
-    ensures { Fitting out.old out.new at result
-        (text.refused_line (number refusal) refusal.place) refused_room }
+    ensures { Fitting out.old out.new at result (text.refused_line number place) refused_room }
 {
-    let number = u32::from(refusal.reason);
     let first = put_bytes(out, at, b"refused=");
     let comma = put_number(out, first, number);
     let second = put_byte(out, comma, b',');
-    let end = put_number(out, second, refusal.place);
+    let end = put_number(out, second, place);
     put_byte(out, end, b'\n')
 }

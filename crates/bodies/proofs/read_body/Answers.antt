@@ -3,7 +3,7 @@ use native.Mathlib.Omega.{arith}
 use mathlib.Core.Path.{ap, subst, ◌∙◌}
 use Prim.Native.Nat.{◌+◌, ◌-◌, ◌*◌}
 use lib.ListN.{drop}
-use Rattle.std.specs.Prelude.{Some, Ok, Err}
+use Rattle.std.specs.Prelude.{Some, None, Ok, Err}
 use Rattle.std.proofs.lemmas.Result.{err_from_is_err_and}
 use Rattle.lines.specs.Lines.{line_at, rows_at, Stored, StoredRows}
 use Rattle.lines.proofs.Results.{ok_some, ok_none, map_ok, map_err, stored_as, rows_stored_as}
@@ -66,10 +66,16 @@ returns-in_err-last c =
     (wrong_end H W short (tree (goal.at.returns-in_err-last c).In_ok-after_tree) (rows (goal.at.returns-in_err-last c).In_ok-after_rows)
     (subst (Ends _ _) wrong (end (goal.at.returns-in_err-last c).After-read_end))) c.read_rows-rest.array_long
 
-pub returns : goal.returns
-returns c =
+pub returns-in-Some : goal.returns-in-Some
+returns-in-Some c =
     let (H, W, short, long) = c.requires in
     let e = map_ok _ c.read_end.result _ c.in_ok-last.ensures.cases in
-    rw c.unwrap_or.ensures
-    (done H W short (tree (goal.at.returns c).In_ok-after_tree) (rows (goal.at.returns c).In_ok-after_rows) long c.in_ok-last.last
-    (subst (Ends _ _) e (end (goal.at.returns c).After-read_end)))
+    done H W short (tree (goal.at.returns-in-Some c).In_ok-after_tree) (rows (goal.at.returns-in-Some c).In_ok-after_rows) long
+    (Some c.in-Some.resolve) (subst (Ends _ _) (e ∙ ap Ok c.in-Some.is) (end (goal.at.returns-in-Some c).After-read_end))
+
+pub returns-in-None : goal.returns-in-None
+returns-in-None c =
+    let (H, W, short, long) = c.requires in
+    let e = map_ok _ c.read_end.result _ c.in_ok-last.ensures.cases in
+    done H W short (tree (goal.at.returns-in-None c).In_ok-after_tree) (rows (goal.at.returns-in-None c).In_ok-after_rows) long None
+    (subst (Ends _ _) (e ∙ ap Ok c.in-None.is) (end (goal.at.returns-in-None c).After-read_end))

@@ -1,7 +1,6 @@
 -- `correct` makes the checks in their order, and then corrects the stretch of the character.
 use mathlib.Core.Path.{refl}
 use mathlib.Core.List.{[], ◌∷◌}
-use Rattle.std.proofs.lemmas.Result.{err_from_is_err_and}
 use Rattle.refusals.proofs.Laws.{told_not}
 use Rattle.limits.specs.Limits.{Outside, matrix_slice, lent_slices, Told, InLimits}
 use Rattle.limits.proofs.Lending.{in_limits}
@@ -30,13 +29,11 @@ admit_character-requires c =
     admissible _ _ c.args.tree.now c.args.matrix.now (table_slices c.args.n c.args.c (table at.Start))
     (limits at.Else-outside) _ (told-all at.After-lend-from1)
 
-pub returns-in_err-admit_character : goal.returns-in_err-admit_character
-returns-in_err-admit_character c =
-    let at = goal.at.returns-in_err-admit_character c in
-    let p = err_from_is_err_and c.from_residual.result c.from_residual.ensures.1 in
-    rw (p.1, p.2) (
+pub returns-in-Err : goal.returns-in-Err
+returns-in-Err c =
+    let at = goal.at.returns-in-Err c in (
       correct_refused _ _ c.args.taxon c.args.character c.args.state c.args.tree.now c.args.matrix.now (table at.Start)
-          (limits at.Else-outside) _ (told-all at.After-lend-from1) _ c.wanted-looked.ensures _ c.in_err-admit_character.ensures,
+          (limits at.Else-outside) _ (told-all at.After-lend-from1) _ c.wanted-looked.ensures c.in-Err.refusal c.in-Err.ensures,
       refl,
       refl,
     )
@@ -45,11 +42,11 @@ pub correct_in-requires : goal.correct_in-requires
 correct_in-requires c =
     let at = goal.at.correct_in-requires c in
     correctable_in _ _ c.args.taxon c.args.character c.args.state c.args.tree.now c.args.matrix.now (table at.Start)
-    (limits at.Else-outside) _ (told-all at.After-lend-from1) _ c.wanted-looked.ensures _ c.in_ok-admit_character.ensures
+    (limits at.Else-outside) _ (told-all at.After-lend-from1) _ c.wanted-looked.ensures _ c.in-Ok.ensures
 
-pub returns : goal.returns
-returns c =
-    let at = goal.at.returns c in
+pub returns-in-Ok : goal.returns-in-Ok
+returns-in-Ok c =
+    let at = goal.at.returns-in-Ok c in
     corrects _ _ c.args.taxon c.args.character c.args.state c.args.tree.now c.args.matrix.now (table at.Start)
-    (limits at.Else-outside) _ (told-all at.After-lend-from1) _ c.wanted-looked.ensures _ c.in_ok-admit_character.ensures
+    (limits at.Else-outside) _ (told-all at.After-lend-from1) _ c.wanted-looked.ensures _ c.in-Ok.ensures
     _ _ c.correct_in.result c.correct_in.ensures

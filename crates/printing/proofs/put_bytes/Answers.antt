@@ -1,7 +1,10 @@
--- `put_bytes`: the part of the slice behind `at`, as long as the text, holds the text.
-use native.Mathlib.Omega.{arith}
-use Rattle.printing.proofs.Laws.{written_part}
+-- `put_bytes`: a turn writes one byte more, and the slice stays as long as it was.
+use lib.ListN.{length-set}
+use Rattle.printing.proofs.Laws.{bytes_more}
 use Rattle.printing.proofs.put_bytes.Goals as goal
 
-pub returns : goal.returns
-returns c = written_part _ _ _ _ _ c.requires c.copy_from_slice.ensures.after (omega arith)
+pub loop-k-preserved : goal.loop-k-preserved
+loop-k-preserved c = (
+  simp length-set c.loop-k.invariant.0,
+  bytes_more c.loop-k.out c.args.out.now c.args.at c.args.text.now c.loop-k.k c.loop-k-test.true c.loop-k.invariant.1,
+)

@@ -21,11 +21,11 @@ put_byte-requires c = omega (arith, ten_digits)
 
 pub returns : goal.returns
 returns c =
-    rw (← c.from-number.ensures) (record {
+    record {
       written =
           written_both _ _ _ _ _ _ _ _ c.put_bytes-first.ensures
           (written_both _ _ _ _ _ _ _ _ c.put_number-comma.ensures
           (written_both _ _ _ _ _ _ _ _ c.put_byte-second.ensures
           (written_both _ _ _ _ _ _ _ _ c.put_number-end.ensures c.put_byte.ensures)));
       short = omega (arith, ten_digits, length-append {A = ℕ});
-    })
+    }
