@@ -73,8 +73,9 @@ pub fn starts(text: &[u8], at: usize, key: &[u8]) -> bool
     requires { (at ≤ 32768) × (length key.now ≤ 64) }
     ensures { result ≡ starts_at text.now at key.now }
 {
-    for (j, k) in key.iter().enumerate() {
-        if byte(text, at + j) != *k {
+    // By the index: the edit `first_byte_of_the_key_unread` begins at 1 here, and beside an iterator it would be refused for its form alone.
+    for j in 0..key.len() {
+        if byte(text, at + j) != key[j] {
             return false;
         }
     }

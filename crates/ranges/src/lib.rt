@@ -22,9 +22,17 @@ pub fn join(a: Range, b: Range) -> Range
 {
     let from = a.low.max(b.low);
     let to = a.high.min(b.high);
-    Range {
-        low: from.min(to),
-        high: from.max(to),
+    // Two arms, and no smaller and larger of the two: the edit `join_of_far_ends` changes the gap alone.
+    if from <= to {
+        Range {
+            low: from,
+            high: to,
+        }
+    } else {
+        Range {
+            low: to,
+            high: from,
+        }
     }
 }
 

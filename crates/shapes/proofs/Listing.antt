@@ -1,9 +1,9 @@
 -- The two descendants of each interior node, listed entry by entry: the first that is met and the last.
 -- Assumes nothing.
-use mathlib.Core.Path.{◌≡◌, refl, sym, ◌∙◌, ap, ap₂, subst}
+use mathlib.Core.Path.{◌≡◌, refl, sym, ◌∙◌, ap, ap₂}
 use mathlib.Core.Logic.{◌≢◌}
 use mathlib.Core.List.{List, [], ◌∷◌, ◌++◌}
-use Prim.Native.Nat.{ℕ, zero, suc, ◌+◌, ◌-◌, ◌*◌, ◌≤◌, ◌<◌}
+use Prim.Native.Nat.{ℕ, suc, ◌+◌, ◌-◌, ◌≤◌, ◌<◌}
 use native.Mathlib.Decide.{ℕ_discrete, dec_le}
 use native.Mathlib.Numerals.{add-one}
 use native.Mathlib.Omega.{arith}
@@ -12,10 +12,10 @@ use lib.Seq.{get_or-set_same, get_or-set_other}
 use Rattle.parsimony.specs.Lists.{from, choose}
 use Rattle.parsimony.specs.Table.{ancestor, having, descendants}
 use Rattle.parsimony.specs.Character.{at_node}
-use Rattle.parsimony.proofs.Sums.{All, all_from, from_more, zeros, choose_yes, choose_no}
+use Rattle.parsimony.proofs.Sums.{from_more, zeros, choose_yes, choose_no}
 use Rattle.trees.specs.Answers.{Sized}
 use Rattle.shapes.specs.Shape.{Filled}
-use Rattle.shapes.specs.Filling.{first_of, left_with, right_with, Fillable}
+use Rattle.shapes.specs.Filling.{noted, Fillable}
 use Rattle.parsimony.proofs.Tables.Descendants.{entry_at}
 
 -- the last number of a list, and 0 of none
@@ -33,12 +33,6 @@ unfolding last
 last_snoc [] y = refl
 last_snoc (x ∷ []) y = refl
 last_snoc (x ∷ z ∷ zs) y = last_snoc (z ∷ zs) y
-
-first_snoc : (xs : List ℕ) (y : ℕ) → All (λ x. 1 ≤ x) xs → first (xs ++ (y ∷ [])) ≡ first_of (first xs) y
-unfolding first
-first_snoc [] y h = refl
-first_snoc (zero ∷ xs) y h = let z : ⊥ = omega arith in absurd z
-first_snoc (suc x ∷ xs) y h = refl
 
 two_are : (xs : List ℕ) → length xs ≡ 2 → xs ≡ first xs ∷ last xs ∷ []
 unfolding first last
@@ -88,31 +82,69 @@ module _ (tree : List ℕ) where
       append-nil [] = refl
       append-nil (x ∷ xs) = ap (λ zs. x ∷ zs) (append-nil xs)
 
-  some-having : (v : ℕ) (ks : List ℕ) → All (λ x. 1 ≤ x) ks → All (λ x. 1 ≤ x) (having tree v ks)
+  -- the descendants of v among the last k nodes
+  abbrev pub rest : ℕ → ℕ → List ℕ
+  rest k v = having tree v (from (suc (length tree - k)) k)
+
+  -- the last k + 1 nodes begin with the node d + 1
+  rest-more : (k d v : ℕ) → d + suc k ≡ length tree → rest (k + 1) v ≡ having tree v ((d + 1) ∷ from (suc (length tree - k)) k)
+  rest-more k d v l =
+      let node : suc (length tree - suc k) ≡ d + 1 = omega arith in
+      let above : suc (length tree - suc k) ≡ length tree - k = omega arith in
+      ap (λ j. rest j v) (add-one k) ∙ ap₂ (λ i j. having tree v (i ∷ from (suc j) k)) node above
+
+  rest_yes : (k d v : ℕ) → d + suc k ≡ length tree → v ≡ get_or tree d 0 → rest (k + 1) v ≡ (d + 1) ∷ rest k v
   unfolding having
-  some-having v [] h = tt
-  some-having v (x ∷ xs) h = go (ℕ_discrete v (ancestor tree x)) (some-having v xs h.1)
+  rest_yes k d v l e =
+      rest-more k d v l ∙ choose_yes (ℕ_discrete v (ancestor tree (d + 1))) ((d + 1) ∷ rest k v) (rest k v) (e ∙ sym (entry_at tree d))
+
+  rest_no : (k d v : ℕ) → d + suc k ≡ length tree → v ≢ get_or tree d 0 → rest (k + 1) v ≡ rest k v
+  unfolding having
+  rest_no k d v l h =
+      rest-more k d v l
+      ∙ choose_no (ℕ_discrete v (ancestor tree (d + 1))) ((d + 1) ∷ rest k v) (rest k v) (λ e. h (e ∙ entry_at tree d))
+
+-- ---- a list with one more node noted
+
+module _ (n a node : ℕ) (list : List ℕ) where
+  long-noted : length (noted n a node list) ≡ length list
+  long-noted = go (dec_le a n)
     where
-      go : (d : Dec (v ≡ ancestor tree x)) → All (λ x. 1 ≤ x) (having tree v xs)
-          → All (λ x. 1 ≤ x) (choose d (x ∷ having tree v xs) (having tree v xs))
-      go (yes e) ih = (h.0, ih)
-      go (no e) ih = ih
+      go : (d : Dec (a ≤ n)) → length (choose d list (set list (a - n - 1) node)) ≡ length list
+      go (yes l) = refl
+      go (no l) = simp length-set
 
-  met_some : (k v : ℕ) → All (λ x. 1 ≤ x) (met k v)
-  met_some k v = some-having v (from 1 k) (all_from (λ x. 1 ≤ x) 1 k (λ x p q. p))
+  -- at the entry's own node
+  own : (v : ℕ) → n < v → v ≡ a → v - suc n < length list → at_node n (noted n a node list) v ≡ node
+  own v lo r s = go (dec_le a n)
+    where
+      place : a - n - 1 ≡ v - suc n
+      place = omega arith
 
--- ---- what the lists have after k entries
+      go : (d : Dec (a ≤ n)) → get_or (choose d list (set list (a - n - 1) node)) (v - suc n) 0 ≡ node
+      go (yes l) = let z : ⊥ = omega arith in absurd z
+      go (no l) = rw place (get_or-set_same list (v - suc n) node 0 s)
+
+  -- at any other
+  other : (v : ℕ) → n < v → v ≢ a → at_node n (noted n a node list) v ≡ at_node n list v
+  other v lo r = go (dec_le a n)
+    where
+      go : (d : Dec (a ≤ n)) → get_or (choose d list (set list (a - n - 1) node)) (v - suc n) 0 ≡ at_node n list v
+      go (yes l) = refl
+      go (no l) = get_or-set_other list (a - n - 1) (v - suc n) node 0 (omega arith)
+
+-- ---- what the lists have after k turns: the first descendants among the last k nodes, and the last among the first k
 
 module _ (n : ℕ) (tree : List ℕ) where
   pub record ListsTo (k : ℕ) (left right : List ℕ) : Type 0 where
     pub lefts : length left ≡ 254
     pub rights : length right ≡ 254
-    pub firsts : (v : ℕ) → n < v → v ≤ length tree → at_node n left v ≡ first (met tree k v)
+    pub firsts : (v : ℕ) → n < v → v ≤ length tree → at_node n left v ≡ first (rest tree k v)
     pub lasts : (v : ℕ) → n < v → v ≤ length tree → 1 ≤ length (met tree k v) → at_node n right v ≡ last (met tree k v)
 
   -- an entry is a node, so the lists have its place
-  pub entry-most : Fillable n tree → (k : ℕ) → get_or tree k 0 ≤ n + 254
-  entry-most F k = omega (arith, entry_at tree k, F.within (k + 1), F.sized.nodes, F.sized.most)
+  pub entry-most : Fillable n tree → (k : ℕ) {x : ℕ} → x ≡ get_or tree k 0 → x ≤ n + 254
+  entry-most F k {x} e = omega (arith, e, entry_at tree k, F.within (k + 1), F.sized.nodes, F.sized.most)
 
   pub lists-none : ListsTo 0 (replicate 254 0) (replicate 254 0)
   unfolding having first
@@ -124,80 +156,41 @@ module _ (n : ℕ) (tree : List ℕ) where
         lasts = λ v lo hi h. let z : ⊥ = omega arith in absurd z;
       }
 
-  module _ (k a : ℕ) (e : a ≡ get_or tree k 0) (left right : List ℕ) (S : length tree ≡ 2 * n - 2) (M : n ≤ 256) (H : ListsTo k left right) where
-    abbrev left' : List ℕ
-    left' = left_with n a (k + 1) left
+  -- one turn more: the next node from above is noted in the left list, and the next from below in the right one
+  pub lists-after : (d : ℕ) {k a b : ℕ} {left right left' right' : List ℕ} → d + suc k ≡ length tree
+      → b ≡ get_or tree d 0 → a ≡ get_or tree k 0 → Sized n tree → ListsTo k left right
+      → left' ≡ noted n b (d + 1) left → right' ≡ noted n a (k + 1) right → ListsTo (k + 1) left' right'
+  unfolding first
+  lists-after d {k} {a} {b} {left} {right} {left'} {right'} t q e S H l r =
+      record {
+        lefts = ap length l ∙ long-noted n b (d + 1) left ∙ H.lefts;
+        rights = ap length r ∙ long-noted n a (k + 1) right ∙ H.rights;
+        firsts = λ v lo hi. ap (λ xs. at_node n xs v) l ∙ firsts v lo hi (ℕ_discrete v b);
+        lasts = λ v lo hi h. ap (λ xs. at_node n xs v) r ∙ lasts v lo hi h (ℕ_discrete v a);
+      }
+    where
+      firsts : (v : ℕ) → n < v → v ≤ length tree → Dec (v ≡ b) → at_node n (noted n b (d + 1) left) v ≡ first (rest tree (k + 1) v)
+      firsts v lo hi (yes p) =
+          own n b (d + 1) left v lo p (omega (arith, H.lefts, S.nodes, S.most)) ∙ sym (ap first (rest_yes tree k d v t (p ∙ q)))
+      firsts v lo hi (no p) =
+          other n b (d + 1) left v lo p ∙ H.firsts v lo hi ∙ sym (ap first (rest_no tree k d v t (λ w. p (w ∙ sym q))))
 
-    abbrev right' : List ℕ
-    right' = right_with n a (k + 1) right
-
-    long_left : (d : Dec (a ≤ n)) → length (choose d left (set left (a - n - 1) (first_of (get_or left (a - n - 1) 0) (k + 1)))) ≡ 254
-    long_left (yes l) = H.lefts
-    long_left (no l) = simp length-set H.lefts
-
-    long_right : (d : Dec (a ≤ n)) → length (choose d right (set right (a - n - 1) (k + 1))) ≡ 254
-    long_right (yes l) = H.rights
-    long_right (no l) = simp length-set H.rights
-
-    -- at the entry's own node
-    module _ (v : ℕ) (lo : n < v) (hi : v ≤ length tree) (r : v ≡ a) where
-      place : a - n - 1 ≡ v - suc n
-      place = omega arith
-
-      own_left : (d : Dec (a ≤ n))
-          → get_or (choose d left (set left (a - n - 1) (first_of (get_or left (a - n - 1) 0) (k + 1)))) (v - suc n) 0 ≡ first_of (at_node n left v) (k + 1)
-      own_left (yes l) = let z : ⊥ = omega arith in absurd z
-      own_left (no l) = rw place (get_or-set_same left (v - suc n) (first_of (at_node n left v) (k + 1)) 0 (omega (arith, H.lefts)))
-
-      own_right : (d : Dec (a ≤ n)) → get_or (choose d right (set right (a - n - 1) (k + 1))) (v - suc n) 0 ≡ k + 1
-      own_right (yes l) = let z : ⊥ = omega arith in absurd z
-      own_right (no l) = rw place (get_or-set_same right (v - suc n) (k + 1) 0 (omega (arith, H.rights)))
-
-    -- at any other
-    module _ (v : ℕ) (lo : n < v) (r : v ≢ a) where
-      other_left : (d : Dec (a ≤ n))
-          → get_or (choose d left (set left (a - n - 1) (first_of (get_or left (a - n - 1) 0) (k + 1)))) (v - suc n) 0 ≡ at_node n left v
-      other_left (yes l) = refl
-      other_left (no l) = get_or-set_other left (a - n - 1) (v - suc n) (first_of (get_or left (a - n - 1) 0) (k + 1)) 0 (omega arith)
-
-      other_right : (d : Dec (a ≤ n)) → get_or (choose d right (set right (a - n - 1) (k + 1))) (v - suc n) 0 ≡ at_node n right v
-      other_right (yes l) = refl
-      other_right (no l) = get_or-set_other right (a - n - 1) (v - suc n) (k + 1) 0 (omega arith)
-
-    pub lists-more : ListsTo (k + 1) left' right'
-    lists-more =
-        record {
-          lefts = long_left (dec_le a n);
-          rights = long_right (dec_le a n);
-          firsts = λ v lo hi. firsts v lo hi (ℕ_discrete v a);
-          lasts = λ v lo hi. lasts v lo hi (ℕ_discrete v a);
-        }
-      where
-        firsts : (v : ℕ) → n < v → v ≤ length tree → Dec (v ≡ a) → at_node n left' v ≡ first (met tree (k + 1) v)
-        firsts v lo hi (yes r) =
-            own_left v lo hi r (dec_le a n) ∙ ap (λ x. first_of x (k + 1)) (H.firsts v lo hi)
-            ∙ sym (ap first (met_yes tree k v (r ∙ e)) ∙ first_snoc (met tree k v) (k + 1) (met_some tree k v))
-        firsts v lo hi (no r) =
-            other_left v lo r (dec_le a n) ∙ H.firsts v lo hi ∙ sym (ap first (met_no tree k v (λ q. r (q ∙ sym e))))
-
-        lasts : (v : ℕ) → n < v → v ≤ length tree → Dec (v ≡ a) → 1 ≤ length (met tree (k + 1) v) → at_node n right' v ≡ last (met tree (k + 1) v)
-        lasts v lo hi (yes r) h =
-            own_right v lo hi r (dec_le a n) ∙ sym (ap last (met_yes tree k v (r ∙ e)) ∙ last_snoc (met tree k v) (k + 1))
-        lasts v lo hi (no r) h =
-            other_right v lo r (dec_le a n)
-            ∙ H.lasts v lo hi (omega (arith, ap length (met_no tree k v (λ q. r (q ∙ sym e)))))
-            ∙ sym (ap last (met_no tree k v (λ q. r (q ∙ sym e))))
-
-  -- the same, of lists that were written so
-  pub lists-after : {k a : ℕ} {left right left' right' : List ℕ} → a ≡ get_or tree k 0 → Sized n tree → ListsTo k left right
-      → (left' ≡ left_with n a (k + 1) left) × (right' ≡ right_with n a (k + 1) right) → ListsTo (k + 1) left' right'
-  lists-after {k} {a} {left} {right} {left'} {right'} e S H (l, r) =
-      subst (λ xs. ListsTo (k + 1) xs right') (sym l)
-      (subst (λ ys. ListsTo (k + 1) (left_with n a (k + 1) left) ys) (sym r) (lists-more k a e left right S.nodes S.most H))
+      lasts : (v : ℕ) → n < v → v ≤ length tree → 1 ≤ length (met tree (k + 1) v) → Dec (v ≡ a)
+          → at_node n (noted n a (k + 1) right) v ≡ last (met tree (k + 1) v)
+      lasts v lo hi h (yes p) =
+          own n a (k + 1) right v lo p (omega (arith, H.rights, S.nodes, S.most))
+          ∙ sym (ap last (met_yes tree k v (p ∙ e)) ∙ last_snoc (met tree k v) (k + 1))
+      lasts v lo hi h (no p) =
+          let same : met tree (k + 1) v ≡ met tree k v = met_no tree k v (λ w. p (w ∙ sym e)) in
+          other n a (k + 1) right v lo p ∙ H.lasts v lo hi (omega (arith, ap length same)) ∙ sym (ap last same)
 
   pub lists-all : {k : ℕ} {left right : List ℕ} → k ≡ length tree → Fillable n tree → ListsTo k left right → Filled n tree left right
   lists-all {k} {left} {right} q F H v lo hi =
       let m : met tree k v ≡ descendants tree v = ap (λ j. met tree j v) q in
-      let t : length (met tree k v) ≡ 2 = ap length m ∙ F.two v lo hi in
-      sym m ∙ two_are (met tree k v) t
-      ∙ ap₂ (λ x y. x ∷ y ∷ []) (sym (H.firsts v lo hi)) (sym (H.lasts v lo hi (omega arith)))
+      let none : length tree - length tree ≡ 0 = omega arith in
+      let r : rest tree k v ≡ descendants tree v = ap (λ j. rest tree j v) q ∙ ap (λ j. having tree v (from (suc j) (length tree))) none in
+      let t : length (descendants tree v) ≡ 2 = F.two v lo hi in
+      two_are (descendants tree v) t
+      ∙ ap₂ (λ x y. x ∷ y ∷ [])
+      (sym (H.firsts v lo hi ∙ ap first r))
+      (sym (H.lasts v lo hi (omega (arith, ap length m)) ∙ ap last m))

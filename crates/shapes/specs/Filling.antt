@@ -1,24 +1,15 @@
 -- What the functions of the shape ask, and what they do to a list at each step; and what those that follow the lists ask of them.
 -- Assumes nothing.
-use Rattle.std.specs.Prelude.{◌≡◌, List, ℕ, zero, suc, ◌-◌, ◌≤◌, ◌<◌, length, get_or, set}
+use Rattle.std.specs.Prelude.{◌≡◌, List, ℕ, ◌-◌, ◌≤◌, ◌<◌, length, set}
 use Rattle.std.proofs.Math.Decide.{dec_le}
 use Rattle.parsimony.specs.Lists.{choose}
 use Rattle.parsimony.specs.Table.{ancestor, descendants, Accepted}
 use Rattle.shapes.specs.Shape.{Filled}
 use Rattle.trees.specs.Answers.{Sized}
 
--- what was there, or the node where nothing was
-abbrev pub first_of : ℕ → ℕ → ℕ
-first_of zero node = node
-first_of (suc old) node = suc old
-
--- the list of left descendants, with one more descendant noted: nothing changes at a taxon
-abbrev pub left_with : (n a node : ℕ) → List ℕ → List ℕ
-left_with n a node left = choose (dec_le a n) left (set left (a - n - 1) (first_of (get_or left (a - n - 1) 0) node))
-
--- and that of right descendants
-abbrev pub right_with : (n a node : ℕ) → List ℕ → List ℕ
-right_with n a node right = choose (dec_le a n) right (set right (a - n - 1) node)
+-- a list of descendants, with the descendant of one more node noted: nothing changes at a taxon
+abbrev pub noted : (n a node : ℕ) → List ℕ → List ℕ
+noted n a node list = choose (dec_le a n) list (set list (a - n - 1) node)
 
 -- the table has entries that are nodes, and two descendants at each interior node
 pub record Fillable (n : ℕ) (tree : List ℕ) : Type 0 where

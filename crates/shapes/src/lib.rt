@@ -3,7 +3,7 @@
 
 ghost use Rattle.std.specs.Prelude.{◌≡◌, ℕ, ◌+◌, ◌≤◌, ◌<◌};
 ghost use Rattle.shapes.specs.Shape.{Filled};
-ghost use Rattle.shapes.specs.Filling.{first_of, left_with, right_with, Fillable};
+ghost use Rattle.shapes.specs.Filling.{noted, Fillable};
 
 // Each interior node's two descendants, the lower in `left` and the higher in `right`; the node n + 1 comes first.
 #[derive(Clone, Copy)]
@@ -12,27 +12,18 @@ pub struct Shape {
     pub right: [u16; 254],
 }
 
-// What was there, or the node where nothing was.
-fn first_of(old: u16, node: u16) -> u16
-    ensures { result ≡ first_of old node }
-{
-    if old == 0 { node } else { old }
-}
-
-// Notes a descendant of a node, where the node is interior: the first that is noted is its left one, the last its right one.
-fn note(n: usize, ancestor: usize, node: u16, shape: &mut Shape)
-    requires { (n < 257) × (ancestor ≤ n + 254) }
-    ensures { (shape.new.left ≡ left_with n ancestor node shape.old.left)
-        × (shape.new.right ≡ right_with n ancestor node shape.old.right) }
+// Notes a descendant of a node, where the node is interior: the last that is noted stays.
+fn note(n: usize, ancestor: usize, node: usize, list: &mut [u16; 254])
+    requires { (n < 257) × (ancestor ≤ n + 254) × (node < 65536) }
+    ensures { list.new ≡ noted n ancestor node list.old }
 {
     if n < ancestor {
-        let at = ancestor - n - 1;
-        shape.left[at] = first_of(shape.left[at], node);
-        shape.right[at] = node;
+        list[ancestor - n - 1] = node as u16;
     }
 }
 
-// The two descendants of each interior node.
+// The two descendants of each interior node: the last that is noted from the highest node down is the lower one, and from node 1 up the higher. No turn
+// reads what another wrote, so none waits for the one before it.
 pub fn descendants(n: usize, tree: &[u16]) -> Shape
     requires { Fillable n tree.now }
     ensures { Filled n tree.now result.left result.right }
@@ -41,9 +32,10 @@ pub fn descendants(n: usize, tree: &[u16]) -> Shape
         left: [0; 254],
         right: [0; 254],
     };
-    for (k, ancestor) in tree.iter().enumerate() {
-        let node = (k + 1) as u16;
-        note(n, usize::from(*ancestor), node, &mut shape);
+    for k in 0..tree.len() {
+        let down = tree.len() - 1 - k;
+        note(n, usize::from(tree[down]), down + 1, &mut shape.left);
+        note(n, usize::from(tree[k]), k + 1, &mut shape.right);
     }
     shape
 }

@@ -1,5 +1,5 @@
--- `descendants` lists the two descendants of each interior node. After k entries the left list has the first of a node's descendants among the first
--- k nodes, and the right list the last.
+-- `descendants` lists the two descendants of each interior node. After k turns the left list has the first of a node's descendants among the last
+-- k nodes, and the right list the last among the first k.
 use Rattle.shapes.proofs.Listing.{ListsTo}
 use Rattle.shapes.proofs.descendants.Given as goal
 
