@@ -1,4 +1,4 @@
--- The two descendants of each interior node, listed entry by entry: the first that is met and the last.
+-- The two descendants of each interior node, listed from both ends of the table: the first of them, in rising order, and the last.
 -- Assumes nothing.
 use mathlib.Core.Path.{◌≡◌, refl, sym, ◌∙◌, ap, ap₂}
 use mathlib.Core.Logic.{◌≢◌}

@@ -7,7 +7,7 @@ use Rattle.parsimony.specs.Table.{ancestor, descendants, Accepted}
 use Rattle.shapes.specs.Shape.{Filled}
 use Rattle.trees.specs.Answers.{Sized}
 
--- a list of descendants, with the descendant of one more node noted: nothing changes at a taxon
+-- a list of descendants, with the node noted as one of a's: nothing changes where a is a taxon, or 0
 abbrev pub noted : (n a node : ℕ) → List ℕ → List ℕ
 noted n a node list = choose (dec_le a n) list (set list (a - n - 1) node)
 

@@ -7,11 +7,18 @@ pub loop-k-init : goal.loop-k-init
 loop-k-init c = lists-none _ _
 
 pub note-requires : goal.note-requires
-note-requires c = (omega (arith, c.requires.sized.most), entry-most _ _ c.requires _ c.from.ensures, omega (arith, c.requires.sized.nodes, c.requires.sized.most))
+note-requires c = (
+  omega (arith, c.requires.sized.most),
+  entry-most _ _ c.requires _ c.from.ensures,
+  omega (arith, c.requires.sized.nodes, c.requires.sized.most),
+)
 
 pub note-requires-in-loop-k : goal.note-requires-in-loop-k
-note-requires-in-loop-k c =
-    (omega (arith, c.requires.sized.most), entry-most _ _ c.requires _ c.from-in-loop-k.ensures, omega (arith, c.requires.sized.nodes, c.requires.sized.most))
+note-requires-in-loop-k c = (
+  omega (arith, c.requires.sized.most),
+  entry-most _ _ c.requires _ c.from-in-loop-k.ensures,
+  omega (arith, c.requires.sized.nodes, c.requires.sized.most),
+)
 
 pub loop-k-preserved : goal.loop-k-preserved
 loop-k-preserved c =
